@@ -1,0 +1,15 @@
+-- What is chosen for a new entry.
+use mathlib.Core.Path.{_≡_}
+use mathlib.Core.List.{List}
+use Prim.Native.Nat.{ℕ}
+use lib.ListN.{length}
+use Rattle.rules.specs.declared.Entry.{Entry}
+use Rattle.rules.specs.Recency.{gone}
+use Rattle.rules.specs.Place.{run}
+use Rattle.eviction.specs.declared.Choice.{Choice}
+
+-- the rounds of 01 for n cells of P, `most` at the most, over the line es: where they lead, how many run, and how many entries they take
+pub record Chosen (clock P n most : ℕ) (es : List Entry) (r : Choice) : Type 0 where
+  pub fit : r .fit ≡ run clock P n most es .fit
+  pub ran : r .ran ≡ run clock P n most es .ran
+  pub gone : r .gone ≡ length (gone clock (run clock P n most es .ran) es)

@@ -1,0 +1,148 @@
+-- What a sound memory is: the test as facts.
+use mathlib.Core.Path.{_≡_, refl, sym, ap, _∙_}
+use mathlib.Core.Bool.{Bool, true, false, not, _&&_, true≢false}
+use mathlib.Core.List.{List, [], _∷_, _++_}
+use Prim.Native.Nat.{ℕ, zero, suc, _+_, _-_, _*_, _≤_, _<_}
+use native.Mathlib.Omega.{arith}
+use native.Mathlib.Nat.{add-zero, add-suc, suc-add}
+use lib.Dec.{leb, ltb, eqb}
+use lib.ListN.{length, take, drop, getD, replicate, length-drop, take-append-drop}
+use lib.Seq.{take-add, drop-drop}
+use borrow.Author.Tests.{eqb-true, leb-true, ltb-true, not-true}
+use Rattle.rules.specs.declared.Entry.{Entry}
+use Rattle.rules.specs.Layout.{cellsOf, needOf, words, flat, encode, entryOf, decode, entriesOf, Dir}
+use Rattle.laws.specs.LayoutLaws.{length-entries}
+use Rattle.rules.specs.Place.{holds, held, freeRun}
+use Rattle.rules.specs.Soundness.{all, every, isZero, rightLengths, entrySound, noneShared, sound}
+
+-- ---- conditions
+
+pub and-left : (a b : Bool) → (a && b) ≡ true → a ≡ true
+and-left true b e = refl
+and-left false b e = e
+
+pub and-right : (a b : Bool) → (a && b) ≡ true → b ≡ true
+and-right true b e = e
+and-right false b e = absurd (true≢false (sym e))
+
+-- ---- the words of a directory
+
+zeros-are : (l : List ℕ) → every isZero l ≡ true → l ≡ replicate (length l) 0
+unfolding every
+zeros-are [] e = refl
+zeros-are (x ∷ l) e =
+    let x0 : x ≡ 0 = eqb-true x 0 (and-left (eqb x 0) (every isZero l) e) in
+    ap (λ (y : ℕ). y ∷ l) x0 ∙ ap (λ (k : List ℕ). 0 ∷ k) (zeros-are l (and-right (eqb x 0) (every isZero l) e))
+
+words-are : (l : List ℕ) → 6 ≤ length l → words (entryOf l) ≡ take 6 l
+words-are [] h = absurd (omega arith)
+words-are (a ∷ []) h = absurd (omega arith)
+words-are (a ∷ b ∷ []) h = absurd (omega arith)
+words-are (a ∷ b ∷ c ∷ []) h = absurd (omega arith)
+words-are (a ∷ b ∷ c ∷ d ∷ []) h = absurd (omega arith)
+words-are (a ∷ b ∷ c ∷ d ∷ e ∷ []) h = absurd (omega arith)
+words-are (a ∷ b ∷ c ∷ d ∷ e ∷ f ∷ l) h = refl
+
+flat-decode : (n : ℕ) (l : List ℕ) → 6 * n ≤ length l → flat (decode n l) ≡ take (6 * n) l
+unfolding flat decode
+flat-decode zero l h = refl
+flat-decode (suc n) l h =
+    let e : 6 + 6 * n ≡ 6 * suc n = omega arith in
+    ap (λ (x : List ℕ). x ++ flat (decode n (drop 6 l))) (words-are l (omega arith))
+    ∙ ap (λ (x : List ℕ). take 6 l ++ x) (flat-decode n (drop 6 l) (omega (arith, length-drop 6 l)))
+    ∙ sym (take-add 6 (6 * n) l)
+    ∙ ap (λ (k : ℕ). take k l) e
+
+-- the form 1, a count with room, and zeros behind the records make a directory
+pub dir-of : (d : List ℕ) → 2 ≤ length d → getD d 0 0 ≡ 1 → 2 + 6 * getD d 1 0 ≤ length d → every isZero (drop (2 + 6 * getD d 1 0) d) ≡ true → Dir d
+unfolding encode entriesOf
+dir-of [] l f r z = absurd (omega arith)
+dir-of (a ∷ []) l f r z = absurd (omega arith)
+dir-of (a ∷ n ∷ w) l f r z =
+    let len : length (decode n w) ≡ n = length-entries (a ∷ n ∷ w) in
+    let dd : drop (2 + 6 * n) (a ∷ n ∷ w) ≡ drop (6 * n) w = sym (drop-drop (6 * n) 2 (a ∷ n ∷ w)) in
+    let ez : length (drop (6 * n) w) ≡ length (a ∷ n ∷ w) - (2 + 6 * length (decode n w)) = omega (arith, length-drop (6 * n) w) in
+    record {
+      shape =
+          ap (λ (k : ℕ). k ∷ n ∷ w) f
+          ∙ ap (λ (k : ℕ). 1 ∷ k ∷ w) (sym len)
+          ∙ ap (λ (x : List ℕ). 1 ∷ length (decode n w) ∷ x)
+          (sym (take-append-drop (6 * n) w)
+          ∙ ap (λ (x : List ℕ). x ++ drop (6 * n) w) (sym (flat-decode n w (omega arith)))
+          ∙ ap (λ (x : List ℕ). flat (decode n w) ++ x) (zeros-are (drop (6 * n) w) (sym (ap (every isZero) dd) ∙ z) ∙ ap (λ (k : ℕ). replicate k 0) ez));
+      room = omega arith;
+      count = len;
+    }
+
+-- ---- a sound memory
+
+pub record Sound (dir pool : List ℕ) : Type 0 where
+  pub dir-is : Dir dir
+  pub some-cell : 1 ≤ cellsOf pool
+  pub few-cells : cellsOf pool ≤ 1024
+  pub pool-size : length pool ≡ 32 * cellsOf pool
+  pub dir-size : length dir ≡ 2 + 6 * cellsOf pool
+  pub few-entries : length (entriesOf dir) ≤ cellsOf pool
+  pub entries-sound : every (entrySound pool) (entriesOf dir) ≡ true
+  pub none-shared : noneShared (entriesOf dir) ≡ true
+
+-- the conditions one by one
+pub all-here : (b : Bool) (bs : List Bool) → all (b ∷ bs) ≡ true → b ≡ true
+all-here b bs t = and-left b (all bs) t
+
+pub all-more : (b : Bool) (bs : List Bool) → all (b ∷ bs) ≡ true → all bs ≡ true
+all-more b bs t = and-right b (all bs) t
+
+pub sound-is : (dir pool : List ℕ) → sound dir pool ≡ true → Sound dir pool
+unfolding sound rightLengths
+sound-is dir pool t =
+    let P : ℕ = cellsOf pool in
+    let c1 : Bool = eqb (length pool) (32 * P) in
+    let c2 : Bool = leb 1 P in
+    let c3 : Bool = leb P 1024 in
+    let c4 : Bool = eqb (length dir) (2 + 6 * P) in
+    let b0 : Bool = rightLengths dir pool in
+    let b1 : Bool = eqb (getD dir 0 0) 1 in
+    let b2 : Bool = leb (getD dir 1 0) P in
+    let b3 : Bool = every isZero (drop (2 + 6 * getD dir 1 0) dir) in
+    let b4 : Bool = every (entrySound pool) (entriesOf dir) in
+    let b5 : Bool = noneShared (entriesOf dir) in
+    let s0 : all (c1 ∷ c2 ∷ c3 ∷ c4 ∷ []) ≡ true = all-here b0 (b1 ∷ b2 ∷ b3 ∷ b4 ∷ b5 ∷ []) t in
+    let s1 : all (c2 ∷ c3 ∷ c4 ∷ []) ≡ true = all-more c1 (c2 ∷ c3 ∷ c4 ∷ []) s0 in
+    let s2 : all (c3 ∷ c4 ∷ []) ≡ true = all-more c2 (c3 ∷ c4 ∷ []) s1 in
+    let s3 : all (c4 ∷ []) ≡ true = all-more c3 (c4 ∷ []) s2 in
+    let t1 : all (b1 ∷ b2 ∷ b3 ∷ b4 ∷ b5 ∷ []) ≡ true = all-more b0 (b1 ∷ b2 ∷ b3 ∷ b4 ∷ b5 ∷ []) t in
+    let t2 : all (b2 ∷ b3 ∷ b4 ∷ b5 ∷ []) ≡ true = all-more b1 (b2 ∷ b3 ∷ b4 ∷ b5 ∷ []) t1 in
+    let t3 : all (b3 ∷ b4 ∷ b5 ∷ []) ≡ true = all-more b2 (b3 ∷ b4 ∷ b5 ∷ []) t2 in
+    let t4 : all (b4 ∷ b5 ∷ []) ≡ true = all-more b3 (b4 ∷ b5 ∷ []) t3 in
+    let size : length dir ≡ 2 + 6 * P = eqb-true (length dir) (2 + 6 * P) (all-here c4 [] s3) in
+    let few : getD dir 1 0 ≤ P = leb-true (getD dir 1 0) P (all-here b2 (b3 ∷ b4 ∷ b5 ∷ []) t2) in
+    record {
+      dir-is = dir-of dir (omega arith) (eqb-true (getD dir 0 0) 1 (all-here b1 (b2 ∷ b3 ∷ b4 ∷ b5 ∷ []) t1)) (omega arith) (all-here b3 (b4 ∷ b5 ∷ []) t3);
+      some-cell = leb-true 1 P (all-here c2 (c3 ∷ c4 ∷ []) s1);
+      few-cells = leb-true P 1024 (all-here c3 (c4 ∷ []) s2);
+      pool-size = eqb-true (length pool) (32 * P) (all-here c1 (c2 ∷ c3 ∷ c4 ∷ []) s0);
+      dir-size = size;
+      few-entries = omega (arith, length-entries dir, few);
+      entries-sound = all-here b4 (b5 ∷ []) t4;
+      none-shared = all-here b5 [] (all-more b4 (b5 ∷ []) t4);
+    }
+
+-- ---- cells
+
+-- a free run, cell by cell
+pub free-cells : (es : List Entry) (n s : ℕ) → freeRun es n s ≡ true → (j : ℕ) → j < n → held es (s + j) ≡ false
+unfolding freeRun
+free-cells es zero s h j l = absurd (omega arith)
+free-cells es (suc n) s h zero l = ap (held es) (add-zero s) ∙ not-true (held es s) (and-left (not (held es s)) (freeRun es n (suc s)) h)
+free-cells es (suc n) s h (suc j) l =
+    ap (held es) (add-suc s j ∙ sym (suc-add s j)) ∙ free-cells es n (suc s) (and-right (not (held es s)) (freeRun es n (suc s)) h) j (omega arith)
+
+-- a cell of the first entry is free of the others
+pub first-alone : (e : Entry) (es : List Entry) → noneShared (e ∷ es) ≡ true → (c : ℕ) → holds e c ≡ true → held es c ≡ false
+unfolding noneShared holds
+first-alone e es t c h =
+    let from : e .start ≤ c = leb-true (e .start) c (and-left (leb (e .start) c) (ltb c (e .start + needOf e)) h) in
+    let to : c < e .start + needOf e = ltb-true c (e .start + needOf e) (and-right (leb (e .start) c) (ltb c (e .start + needOf e)) h) in
+    let w : e .start + (c - e .start) ≡ c = omega arith in
+    ap (held es) (sym w) ∙ free-cells es (needOf e) (e .start) (and-left (freeRun es (needOf e) (e .start)) (noneShared es) t) (c - e .start) (omega arith)

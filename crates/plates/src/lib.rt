@@ -1,0 +1,1 @@
+// Nothing runs here: specs/ has the examples of document 01, computed.

@@ -1,0 +1,10 @@
+pub mod Layout
+pub mod Time
+pub mod LookUp
+pub mod Recency
+pub mod Place
+pub mod Soundness
+pub mod Answer
+pub mod Checks
+pub mod Calls
+pub mod LeastLoss
