@@ -1,16 +1,21 @@
 -- Laws of the checks: one step each, for a code that makes them one by one.
 use mathlib.Core.Path.{_≡_, refl, sym, ap, _∙_}
-use mathlib.Core.Bool.{Bool, true, false, true≢false}
+use mathlib.Core.Bool.{Bool, true, false, not, true≢false}
 use mathlib.Core.List.{List}
-use Prim.Native.Nat.{ℕ, _≤_, _<_}
+use Prim.Native.Nat.{ℕ, zero, suc, _≤_, _<_}
+use native.Mathlib.Omega.{arith}
 use lib.Dec.{eqb, ltb}
 use lib.ListN.{length}
 use borrow.Author.Tests.{eq-eqb, ne-eqb, lt-ltb, le-ltb}
 use Rattle.rules.specs.declared.Check.{Check}
 use Rattle.rules.specs.declared.Check.the-variants.{Passed, Refused}
 use Rattle.rules.specs.declared.Outcome.{Outcome}
-use Rattle.rules.specs.declared.Outcome.the-variants.{ClockZero, KeyEmpty, KeyTooLong}
-use Rattle.rules.specs.Checks.{_then_, refuse, checkClock, checkKey}
+use Rattle.rules.specs.declared.Outcome.the-variants.{NotSound, ClockZero, KeyEmpty, KeyTooLong, KindUnknown, NilRefused, ExpiryTooLate}
+use Rattle.rules.specs.declared.Operation.{Operation}
+use Rattle.rules.specs.declared.Operation.the-variants.{Set, SafeSet, Add, SafeAdd, Replace}
+use Rattle.rules.specs.Time.{tooLate}
+use Rattle.rules.specs.Soundness.{any, sound}
+use Rattle.rules.specs.Checks.{_then_, refuse, checkSound, checkClock, checkKey, checkKind, takesNil, checkNil, checkLifetime}
 
 -- ---- checks in order
 
@@ -47,7 +52,15 @@ then-next (Refused o) b e = absurd (true≢false (ap is-passed e))
     is-passed Passed = true
     is-passed (Refused x) = false
 
--- ---- the clock and the key
+-- ---- the checks one by one, by the tests that a code makes
+
+pub sound-not : (dir pool : List ℕ) (r : Bool) → r ≡ sound dir pool → not r ≡ true → Refused NotSound ≡ checkSound dir pool
+unfolding checkSound
+sound-not dir pool r e n = refuse-yes NotSound (not (sound dir pool)) (ap not (sym e) ∙ n)
+
+pub sound-yes : (dir pool : List ℕ) (r : Bool) → r ≡ sound dir pool → not r ≡ false → Passed ≡ checkSound dir pool
+unfolding checkSound
+sound-yes dir pool r e n = refuse-no NotSound (not (sound dir pool)) (ap not (sym e) ∙ n)
 
 pub clock-zero : (clock : ℕ) → clock ≡ 0 → Refused ClockZero ≡ checkClock clock
 unfolding checkClock
@@ -76,3 +89,48 @@ key-fits key e h =
     then-on (refuse KeyEmpty (eqb (length key) 0)) (refuse KeyTooLong (ltb 65535 (length key))) Passed
     (refuse-no KeyEmpty (eqb (length key) 0) (ne-eqb (length key) 0 e))
     (refuse-no KeyTooLong (ltb 65535 (length key)) (le-ltb 65535 (length key) h))
+
+-- the known kinds are 0, 1, 3 and 4
+pub kind-known : (kind : ℕ) → kind ≤ 4 → (kind ≡ 2 → ⊥) → Passed ≡ checkKind kind
+unfolding checkKind refuse any
+kind-known zero l n = refl
+kind-known (suc zero) l n = refl
+kind-known (suc (suc zero)) l n = absurd (n refl)
+kind-known (suc (suc (suc zero))) l n = refl
+kind-known (suc (suc (suc (suc zero)))) l n = refl
+kind-known (suc (suc (suc (suc (suc kind))))) l n = absurd (omega arith)
+
+pub kind-unknown : (kind : ℕ) → (kind ≤ 4 → kind ≡ 2) → Refused KindUnknown ≡ checkKind kind
+unfolding checkKind refuse any
+kind-unknown kind n =
+    rw (
+      ne-eqb kind 0 (λ e. let h : kind ≡ 2 = n (omega arith) in omega arith),
+      ne-eqb kind 1 (λ e. let h : kind ≡ 2 = n (omega arith) in omega arith),
+      ne-eqb kind 3 (λ e. let h : kind ≡ 2 = n (omega arith) in omega arith),
+      ne-eqb kind 4 (λ e. let h : kind ≡ 2 = n (omega arith) in omega arith),
+    )
+
+-- a kind that is not nil passes check 6 in every store
+pub nil-not : (op : Operation) (kind : ℕ) → (kind ≡ 0 → ⊥) → Passed ≡ checkNil op kind
+unfolding checkNil refuse takesNil
+nil-not Set kind z = refl
+nil-not SafeSet kind z = refl
+nil-not Add kind z = rw (ne-eqb kind 0 z)
+nil-not SafeAdd kind z = rw (ne-eqb kind 0 z)
+nil-not Replace kind z = rw (ne-eqb kind 0 z)
+
+pub nil-taken : (op o : Operation) (kind : ℕ) → op ≡ o → takesNil o ≡ true → Passed ≡ checkNil op kind
+unfolding checkNil refuse
+nil-taken op o kind e t = rw (e, t)
+
+pub nil-refused : (op o : Operation) (kind : ℕ) → op ≡ o → takesNil o ≡ false → kind ≡ 0 → Refused NilRefused ≡ checkNil op kind
+unfolding checkNil refuse
+nil-refused op o kind e t z = rw (e, t, z)
+
+pub lifetime-late : (clock lifetime : ℕ) (r : Bool) → r ≡ tooLate clock lifetime → r ≡ true → Refused ExpiryTooLate ≡ checkLifetime clock lifetime
+unfolding checkLifetime
+lifetime-late clock lifetime r e t = refuse-yes ExpiryTooLate (tooLate clock lifetime) (sym e ∙ t)
+
+pub lifetime-fits : (clock lifetime : ℕ) (r : Bool) → r ≡ tooLate clock lifetime → r ≡ false → Passed ≡ checkLifetime clock lifetime
+unfolding checkLifetime
+lifetime-fits clock lifetime r e t = refuse-no ExpiryTooLate (tooLate clock lifetime) (sym e ∙ t)
