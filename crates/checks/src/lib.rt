@@ -10,7 +10,7 @@ use rules::Outcome;
 pub fn of_clock(dir: &[u64], pool: &[u8], clock: u64) -> Check
     ensures { λ r. ⌜ r ≡ clockChecks (now (dir .entry)) (now (pool .entry)) clock ⌝ }
 {
-    if !memory::is_sound(dir, pool) {
+    if !soundness::is_sound(dir, pool) {
         return Check::Refused(Outcome::NotSound);
     }
     if clock == 0 {

@@ -18,13 +18,14 @@ use Rattle.rules.specs.declared.Initial.{Initial}
 use Rattle.rules.specs.Layout.{cellsOf, encode, entriesOf, Dir, Memory, memoryOf}
 use Rattle.laws.specs.LayoutLaws.{entries-encode, length-encode, dir-encode}
 use Rattle.rules.specs.Soundness.{any, sound, keysDiffer, audit, rightLengths}
-use Rattle.laws.specs.SoundnessLaws.{and-left, and-right, Sound, sound-is}
+use Rattle.laws.specs.SoundnessLaws.{Sound, sound-is}
 use Rattle.rules.specs.Checks.{_then_, refuse, checkLengths, checkSound, checkClock, checkKey, checkKind, checkNil, checkLifetime, clockChecks, keyChecks, storeChecks, expireChecks, checkInitial, incrChecks}
 use Rattle.laws.specs.LeastLossLaws.{first-passed, next-passed, refuse-not}
 use Rattle.rules.specs.Calls.{Work, call, Item, itemOf, valueGiven}
 use Rattle.laws.specs.SoundMemory.{SoundMemory, memory-of, few, sound-of}
 use Rattle.laws.specs.Bytes.{fitsKind, FineItem, given-fits}
 use Rattle.laws.specs.Keys.{Audited, differ-of, of-differ}
+use Rattle.laws.specs.Booleans.{and-left, and-right, or-cases}
 
 -- ---- words and bytes that carry a memory of P cells with Inv
 
@@ -82,10 +83,6 @@ key-passed dir pool clock key e =
     let z : length key ≡ 0 → ⊥ = eqb-false (length key) 0 (refuse-not KeyEmpty (eqb (length key) 0) (first-passed a b c)) in
     let l : length key ≤ 65535 = ltb-false 65535 (length key) (refuse-not KeyTooLong (ltb 65535 (length key)) (next-passed a b c)) in
     (omega (arith, z), l)
-
-or-cases : (a b : Bool) → (a || b) ≡ true → (a ≡ true) ⊎ (b ≡ true)
-or-cases true b t = inl refl
-or-cases false b t = inr t
 
 kind-passed : (kind : ℕ) → checkKind kind ≡ Passed → (kind ≡ 0 → ⊥) → (kind ≡ 1) ⊎ ((kind ≡ 3) ⊎ (kind ≡ 4))
 unfolding checkKind any

@@ -13,7 +13,8 @@ use Rattle.rules.specs.declared.Entry.{Entry}
 use Rattle.rules.specs.Layout.{needOf, none, without, put, part, keyOffset, valueOffset, keyOf, valueBytes}
 use Rattle.rules.specs.Place.{holds, held, freeRun}
 use Rattle.rules.specs.Soundness.{noneShared}
-use Rattle.laws.specs.SoundnessLaws.{and-right, first-alone}
+use Rattle.laws.specs.SoundnessLaws.{first-alone}
+use Rattle.laws.specs.Booleans.{and-right, or-left, or-right}
 
 -- ---- entries that share no cell
 
@@ -25,14 +26,6 @@ pub alone-of : (es : List Entry) → noneShared es ≡ true → Alone es
 unfolding noneShared
 alone-of [] t = tt
 alone-of (e ∷ es) t = (first-alone e es t, alone-of es (and-right (freeRun es (needOf e) (e .start)) (noneShared es) t))
-
-or-right : (x y : Bool) → (x || y) ≡ false → y ≡ false
-or-right true y q = absurd (true≢false q)
-or-right false y q = q
-
-or-left : (x y : Bool) → (x || y) ≡ false → x ≡ false
-or-left true y q = q
-or-left false y q = refl
 
 or-both : {a b : Bool} → a ≡ false → b ≡ false → (a || b) ≡ false
 or-both p q = rw (p, q)

@@ -15,6 +15,7 @@ use Rattle.rules.specs.Place.{holds, held, freeRun}
 use Rattle.laws.specs.SoundnessLaws.{free-cells}
 use Rattle.laws.specs.PlaceLaws.{cells-free}
 use Rattle.laws.specs.Lists.{Each, nil, one, Pairs, none-yet, first, each-map, each-with}
+use Rattle.laws.specs.Booleans.{or-second}
 
 -- two entries share no cell: one ends where the other starts, or before
 abbrev pub Apart : Entry → Entry → Type 0
@@ -133,10 +134,6 @@ unfolding countOf
 count-all f zero = omega arith
 count-all f (suc p) = omega (arith, count-all f p, bit-one (f p))
 
-or-right : (x y : Bool) → y ≡ true → (x || y) ≡ true
-or-right true y h = refl
-or-right false y h = h
-
 crowd : (P : ℕ) {es : List Entry} → Each (λ e. Some e × (e .start + needOf e ≤ P)) es → Pairs Apart es → length es ≤ countOf (held es) P
 unfolding held
 crowd P nil none-yet = omega arith
@@ -145,7 +142,7 @@ crowd P (one {e = e} {es = es} s h) (first a p) =
     let z : e .start + 0 ≡ e .start = omega arith in
     let other : held es (e .start) ≡ false = ap (held es) (sym z) ∙ held-none (e .start + 0) (each-map (λ f c. clear-cells (e .start) (needOf e) f c 0 (s .0)) a) in
     let both : (holds e (e .start) || held es (e .start)) ≡ true = rw own in
-    omega (arith, crowd P h p, count-less (held es) (held (e ∷ es)) (λ c r. or-right (holds e c) (held es c) r) (e .start) P (omega arith) other both)
+    omega (arith, crowd P h p, count-less (held es) (held (e ∷ es)) (λ c r. or-second (holds e c) (held es c) r) (e .start) P (omega arith) other both)
 
 pub few-entries : (P : ℕ) {es : List Entry} → Each (λ e. Some e × (e .start + needOf e ≤ P)) es → Pairs Apart es → length es ≤ P
 few-entries P {es} h p = omega (arith, crowd P h p, count-all (held es) P)

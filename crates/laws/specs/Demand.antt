@@ -29,7 +29,7 @@ use Rattle.laws.specs.RecencyLaws.{gone-left, rounds-few, never-over}
 use Rattle.rules.specs.Place.{holds, held, Placed, run}
 use Rattle.laws.specs.PlaceLaws.{RanBy, run-ran}
 use Rattle.laws.specs.CellLaws.{Alone, alone-reverse, held-reverse}
-use Rattle.laws.specs.SoundnessLaws.{and-left, and-right, Sound}
+use Rattle.laws.specs.SoundnessLaws.{Sound}
 use Rattle.rules.specs.Answer.{numberOf, fieldsOf}
 use Rattle.rules.specs.LookUp.{lookUp}
 use Rattle.rules.specs.Calls.{Work, call, afterSweep, itemOf, storeWork, storeCall, incrWork, incrCall, Item, entryFor, needFor, placeAt, searched, evicted, fitOutcome, placeFit, placedBy, placeAnew}
@@ -37,11 +37,12 @@ use Rattle.rules.specs.LeastLoss.{passed, notSafe, storeMustPlace, storePlacesA
 use Rattle.laws.specs.LeastLossLaws.{passed-is, first-passed, keyed-sound, store-anew, incr-anew, cheapest, no-place, nothing-left, gone-counted, left-counted, after-rounds, stored-key, stored-value}
 use Rattle.laws.specs.Lists.{Each, nil, one, Pairs, none-yet, first, Sub, end, skip, keep, sub-all, sub-without, each-sub, each-map, each-with, each-all, each-at}
 use Rattle.laws.specs.Crowd.{Apart, Clear, held-none, clear-cells}
-use Rattle.laws.specs.SoundMemory.{SoundMemory, memory-of, true-at}
+use Rattle.laws.specs.SoundMemory.{SoundMemory, memory-of}
 use Rattle.laws.specs.Bytes.{Same}
 use Rattle.laws.specs.Blocks.{remove-sub, remove-same, sound-remove, place-same}
 use Rattle.laws.specs.Kept.{oldest-by}
 use Rattle.laws.specs.Keys.{clear-from}
+use Rattle.laws.specs.Booleans.{and-left, and-right, true-at}
 
 -- ---- what removals leave
 

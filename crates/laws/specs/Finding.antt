@@ -13,8 +13,8 @@ use Rattle.rules.specs.declared.Found.the-variants.{Live, Dead, Missing}
 use Rattle.rules.specs.Layout.{Memory, none, entryIn, keyOf}
 use Rattle.rules.specs.Time.{dead}
 use Rattle.rules.specs.LookUp.{same, keyIs, foundFrom, lookUp}
-use Rattle.laws.specs.SoundnessLaws.{and-left, and-right}
 use Rattle.laws.specs.Lists.{Each, nil, one}
+use Rattle.laws.specs.Booleans.{and-left, and-right}
 
 pub same-is : (a b : List ℕ) → same a b ≡ true → a ≡ b
 unfolding same

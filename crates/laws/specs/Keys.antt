@@ -14,7 +14,6 @@ use Rattle.rules.specs.Place.{held}
 use Rattle.rules.specs.Time.{withExpiry}
 use Rattle.rules.specs.LookUp.{same, keyIs}
 use Rattle.rules.specs.Soundness.{any, valueFits, keysDiffer}
-use Rattle.laws.specs.SoundnessLaws.{and-left, and-right}
 use Rattle.rules.specs.Calls.{Item, entryFor, needFor, placeAt, rewriteAt, overwriteAt, addAt, expireAt}
 use Rattle.laws.specs.Lists.{Each, nil, one, Pairs, none-yet, first, sub-without, each-sub, each-at, each-map, each-with, pairs-sub, pairs-out, pairs-replace, pairs-mapped, pairs-with}
 use Rattle.laws.specs.Crowd.{Clear, clear-of}
@@ -23,6 +22,7 @@ use Rattle.laws.specs.Bytes.{Same, FineItem}
 use Rattle.laws.specs.Finding.{same-is, Other, not-same, Means}
 use Rattle.laws.specs.Blocks.{number-size, remove-sub, remove-same, sound-remove, sound-front, sound-expire, sound-expire-all, others-same, sound-overwrite, sound-add, place-same, sound-place}
 use Rattle.laws.specs.Kept.{Kept}
+use Rattle.laws.specs.Booleans.{and-left, and-right}
 
 -- ---- the test
 

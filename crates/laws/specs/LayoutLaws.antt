@@ -5,7 +5,7 @@ use Prim.Native.Nat.{ℕ, zero, suc, _+_, _-_, _*_, _≤_, _<_}
 use native.Mathlib.Omega.{arith}
 use native.Mathlib.Nat.{add-zero}
 use lib.ListN.{length, take, drop, getD, replicate, length-append, length-replicate, length-take, length-drop, drop-of-length-le}
-use lib.Seq.{drop-drop, getD-drop, length-take-le, take-length, take-take}
+use lib.Seq.{drop-cons, drop-drop, getD-drop, length-take-le, take-length, take-take}
 use Rattle.rules.specs.declared.Entry.{Entry}
 use Rattle.rules.specs.Layout.{words, flat, encode, entryOf, entryAt, decode, entriesOf, none, Dir, without, put, Memory, remove, removeOldest}
 
@@ -58,6 +58,15 @@ entry-drop d p = simp (getD-drop, add-zero)
 pub getD-entries : (d : List ℕ) (i : ℕ) → i < length (entriesOf d) → getD (entriesOf d) i none ≡ entryAt d (2 + 6 * i)
 unfolding entriesOf
 getD-entries d i h = getD-decode (getD d 1 0) (drop 2 d) i (omega (arith, length-decode (getD d 1 0) (drop 2 d))) ∙ ap entryOf (drop-drop (6 * i) 2 d) ∙ entry-drop d (2 + 6 * i)
+
+-- the entries from i on: that at i, and those behind it
+pub entries-from : (d : List ℕ) (i : ℕ) → i < length (entriesOf d) → drop i (entriesOf d) ≡ entryAt d (2 + 6 * i) ∷ drop (suc i) (entriesOf d)
+entries-from d i h =
+    drop-cons (entriesOf d) i none h ∙ ap (λ (x : Entry). x ∷ drop (suc i) (entriesOf d)) (getD-entries d i h)
+
+-- the same of the word p at which the record begins
+pub entries-at : (d : List ℕ) (p i : ℕ) → p ≡ 2 + 6 * i → i < length (entriesOf d) → drop i (entriesOf d) ≡ entryAt d p ∷ drop (suc i) (entriesOf d)
+entries-at d p i e h = entries-from d i h ∙ ap (λ (k : ℕ). entryAt d k ∷ drop (suc i) (entriesOf d)) (sym e)
 
 -- what was encoded is a directory
 pub dir-encode : (n : ℕ) (es : List Entry) → 2 + 6 * length es ≤ n → Dir (encode n es)

@@ -32,18 +32,15 @@ use Rattle.laws.specs.CellLaws.{Alone, alone-of, alone-take, alone-witho
 use Rattle.rules.specs.Answer.{numberOf, fieldsOf}
 use Rattle.rules.specs.LookUp.{lookUp}
 use Rattle.rules.specs.Soundness.{all, sound}
-use Rattle.laws.specs.SoundnessLaws.{Sound, sound-is, and-left, and-right, all-here, all-more}
+use Rattle.laws.specs.SoundnessLaws.{Sound, sound-is, all-here, all-more}
 use Rattle.rules.specs.Checks.{_then_, refuse, checkSound, checkClock, checkKey, checkKind, checkNil, checkLifetime, clockChecks, keyChecks, storeChecks, incrChecks, checkInitial}
 use Rattle.laws.specs.ChecksLaws.{then-first, then-next}
 use Rattle.laws.specs.CallsLaws.{call-passed}
 use Rattle.rules.specs.Calls.{Work, call, afterSweep, deleteFound, sameLength, storeOver, storeItem, mostRounds, admits, storeAdmitted, storeFound, storeWork, itemOf, storeCall, inRange, incrNew, incrInitial, incrFound, incrWork, incrCall, Item, entryFor, needFor, placeAt, searched, evicted, fitOutcome, placeFit, placedBy, placeAnew}
 use Rattle.rules.specs.LeastLoss.{passed, overwritesNone, notSafe, storeMustPlace, storePlacesAnew, incrMustPlace, incrPlacesAnew, ownOut, lineFor, restFor, LeastLossOf, Demand3, Place, FreeOrWithin, Costs, Cheapest, SameBytes, LeastLoss}
+use Rattle.laws.specs.Booleans.{and-left, and-right, or-right}
 
 -- ---- free behind rounds is free or held within them
-
-or-right : (x y : Bool) → (x || y) ≡ false → y ≡ false
-or-right true y q = absurd (true≢false q)
-or-right false y q = q
 
 module _ (clock : ℕ) (es : List Entry) where
   parts : (k c : ℕ) → held es c ≡ (held (gone clock k es) c || held (left clock k es) c)

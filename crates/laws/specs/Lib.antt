@@ -1,3 +1,5 @@
+pub mod Booleans
+pub mod Tests
 pub mod LayoutLaws
 pub mod TimeLaws
 pub mod LookUpLaws
@@ -23,3 +25,4 @@ pub mod RunIs
 pub mod Demand
 pub mod Cost
 pub mod Answers
+pub mod Buffers

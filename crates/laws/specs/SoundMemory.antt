@@ -13,9 +13,10 @@ use Rattle.rules.specs.Layout.{cellsOf, needOf, words, flat, encode, entriesOf,
 use Rattle.laws.specs.LayoutLaws.{entries-encode, length-encode, length-flat, dir-encode}
 use Rattle.rules.specs.Place.{freeRun}
 use Rattle.rules.specs.Soundness.{all, every, isZero, rightLengths, valueFits, entrySound, noneShared, sound}
-use Rattle.laws.specs.SoundnessLaws.{and-left, and-right, Sound, sound-is}
+use Rattle.laws.specs.SoundnessLaws.{Sound, sound-is}
 use Rattle.laws.specs.Lists.{Each, nil, one, Pairs, none-yet, first, each-map, each-tail, each-head}
 use Rattle.laws.specs.Crowd.{Apart, Some, Clear, run-clear, clear-run, few-entries}
+use Rattle.laws.specs.Booleans.{and-left, and-right, true-at}
 
 -- "each entry has a kind of 1, 3 or 4 with a value that fits it, flags below 2^32, key length 1 to 65,535, a run inside the pool"
 pub record Fine (P : ℕ) (pool : List ℕ) (e : Entry) : Type 0 where
@@ -40,12 +41,6 @@ pub few : {P : ℕ} {m : Memory} → SoundMemory P m → length (m .entries) ≤
 few {P} s = few-entries P (each-map (λ e f. (omega (arith, f .some-key), f .inside)) (s .each)) (s .apart)
 
 -- ---- from the test
-
--- the conditions one by one
-pub true-at : (bs : List Bool) (i : ℕ) → all bs ≡ true → getD bs i true ≡ true
-true-at [] i t = refl
-true-at (b ∷ bs) zero t = and-left b (all bs) t
-true-at (b ∷ bs) (suc i) t = true-at bs i (and-right b (all bs) t)
 
 fine-of : (pool : List ℕ) (e : Entry) → entrySound pool e ≡ true → Fine (cellsOf pool) pool e
 unfolding entrySound

@@ -14,16 +14,9 @@ use Rattle.rules.specs.Layout.{cellsOf, needOf, words, flat, encode, entryOf, d
 use Rattle.laws.specs.LayoutLaws.{length-entries}
 use Rattle.rules.specs.Place.{holds, held, freeRun}
 use Rattle.rules.specs.Soundness.{all, every, isZero, rightLengths, entrySound, noneShared, sound}
+use Rattle.laws.specs.Booleans.{and-left, and-right}
 
 -- ---- conditions
-
-pub and-left : (a b : Bool) → (a && b) ≡ true → a ≡ true
-and-left true b e = refl
-and-left false b e = e
-
-pub and-right : (a b : Bool) → (a && b) ≡ true → b ≡ true
-and-right true b e = e
-and-right false b e = absurd (true≢false (sym e))
 
 -- ---- the words of a directory
 

@@ -22,11 +22,12 @@ use Rattle.rules.specs.Checks.{refuse, checkLengths, checkSound, clockChecks, k
 use Rattle.rules.specs.Calls.{Work, Result, call, itemOf, freshWork, freshCall, getWork, getCall, deleteWork, deleteCall, storeWork, storeCall, incrWork, incrCall, expireFound, expireCall, flushAllWork, flushAllCall, flushExpiredWork, flushExpiredCall}
 use Rattle.laws.specs.CallsLaws.{call-passed}
 use Rattle.laws.specs.Lists.{Each, nil, none-yet}
-use Rattle.laws.specs.SoundMemory.{SoundMemory, few, true-at}
+use Rattle.laws.specs.SoundMemory.{SoundMemory, few}
 use Rattle.laws.specs.Finding.{Other, finds}
 use Rattle.laws.specs.Kept.{Kept, get-kept, delete-kept, store-kept, incr-kept, expire-kept, flush-all-kept, flush-expired-kept}
 use Rattle.laws.specs.Keys.{Audited, sound-kept, audited-kept}
 use Rattle.laws.specs.Carry.{Carries, carries-encode, carries-call, sound-carries, carries-sound, audit-carries, carries-audit, store-fine, incr-fine}
+use Rattle.laws.specs.Booleans.{true-at}
 
 -- ---- one call
 

@@ -1,0 +1,66 @@
+-- Buffers that hold a memory: what a step of a call leaves is what the next one finds.
+use mathlib.Core.Path.{_≡_, refl, sym, ap, _∙_, subst}
+use mathlib.Core.Bool.{Bool, true}
+use mathlib.Core.List.{List}
+use Prim.Native.Nat.{ℕ, _+_, _*_, _≤_, _<_}
+use native.Mathlib.Omega.{arith}
+use lib.ListN.{length}
+use Rattle.rules.specs.declared.Entry.{Entry}
+use Rattle.rules.specs.Layout.{cellsOf, encode, entriesOf, Dir, Memory, memoryOf, remove, removeOldest}
+use Rattle.rules.specs.Recency.{sweepCount, sweep}
+use Rattle.rules.specs.Soundness.{sound}
+use Rattle.rules.specs.Calls.{Holds}
+use Rattle.laws.specs.LayoutLaws.{entries-encode, length-encode}
+use Rattle.laws.specs.SoundnessLaws.{Sound, sound-is}
+use Rattle.laws.specs.SoundMemory.{SoundMemory, memory-of, few, sound-encode}
+use Rattle.laws.specs.Blocks.{sound-remove}
+use Rattle.laws.specs.Kept.{oldest-by}
+
+-- the entries of a memory's words are its entries, and the memory of its words and bytes is itself
+pub holds-memory : {n : ℕ} {m : Memory} {dir pool : List ℕ} → Holds n m dir pool → memoryOf dir pool ≡ m
+unfolding memoryOf
+holds-memory {n} {m} h = rw (h .words, h .bytes, entries-encode n (m .entries))
+
+-- a sound memory's own words and bytes
+pub holds-itself : (dir pool : List ℕ) → Dir dir → Holds (length dir) (memoryOf dir pool) dir pool
+unfolding memoryOf
+holds-itself dir pool d = record { words = d .shape; bytes = refl }
+
+-- ---- over a sound memory
+
+module _ (dir pool : List ℕ) (t : sound dir pool ≡ true) where
+  abbrev before : Memory
+  before = memoryOf dir pool
+
+  abbrev P : ℕ
+  P = cellsOf pool
+
+  pub given-sound : Sound dir pool
+  given-sound = sound-is dir pool t
+
+  pub given-memory : SoundMemory P before
+  given-memory = memory-of given-sound
+
+  -- a step that leaves a sound memory leaves sound buffers
+  pub step-sound : {m : Memory} {dir' pool' : List ℕ} → SoundMemory P m → Holds (length dir) m dir' pool' → sound dir' pool' ≡ true
+  step-sound {m} s h = rw (h .words, h .bytes, given-sound .dir-size) (sound-encode s)
+
+  -- of the same lengths
+  pub step-length : {m : Memory} {dir' pool' : List ℕ} → SoundMemory P m → Holds (length dir) m dir' pool' → length dir' ≡ length dir
+  step-length {m} s h = ap length (h .words) ∙ length-encode (length dir) (m .entries) (omega (arith, few s, given-sound .dir-size))
+
+  pub step-cells : {m : Memory} {dir' pool' : List ℕ} → SoundMemory P m → Holds (length dir) m dir' pool' → length pool' ≡ length pool
+  unfolding memoryOf
+  step-cells {m} s h = ap length (h .bytes) ∙ s .pool-size ∙ sym (given-memory .pool-size)
+
+  -- ---- what the steps leave is sound
+
+  pub removed-sound : (i : ℕ) → SoundMemory P (remove i before)
+  removed-sound i = sound-remove i before given-memory
+
+  pub oldest-sound : (n : ℕ) → SoundMemory P (removeOldest n before)
+  oldest-sound n = oldest-by (SoundMemory P) sound-remove n before given-memory
+
+  pub swept-sound : (clock : ℕ) → SoundMemory P (sweep clock before)
+  unfolding sweep
+  swept-sound clock = oldest-sound (sweepCount clock before)
