@@ -23,3 +23,4 @@ pub mod RunIs
 pub mod Demand
 pub mod Cost
 pub mod Answers
+pub mod NumberLaws
