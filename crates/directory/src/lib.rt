@@ -5,7 +5,6 @@ ghost use Prim.Native.Nat.{_+_, _*_, _≤_, _<_};
 ghost use lib.ListN.{length, take, getD};
 ghost use Rattle.rules.specs.Layout.{words, encode, entryAt, entriesOf, none, Dir, without, toFront, replaceAt, put};
 ghost use Rattle.rules.specs.Time.{withExpiry};
-
 use rules::Entry;
 
 // The entry whose words begin at p.

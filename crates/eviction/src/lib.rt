@@ -10,8 +10,8 @@ ghost use Rattle.rules.specs.Recency.{line, sweepCount};
 ghost use Rattle.rules.specs.Soundness.{sound};
 ghost use Rattle.laws.specs.Cost.{fitWithin};
 ghost use Rattle.eviction.specs.Choice.{Chosen};
-
-use rules::{Entry, Fit};
+use rules::Entry;
+use rules::Fit;
 
 // The entry is dead by the clock.
 pub fn is_dead(e: Entry, clock: u64) -> bool
