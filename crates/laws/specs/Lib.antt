@@ -26,3 +26,4 @@ pub mod Demand
 pub mod Cost
 pub mod Answers
 pub mod Buffers
+pub mod NumberLaws
