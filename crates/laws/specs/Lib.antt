@@ -26,4 +26,5 @@ pub mod Demand
 pub mod Cost
 pub mod Answers
 pub mod Buffers
+pub mod AuditLaws
 pub mod NumberLaws
