@@ -1,7 +1,7 @@
 -- Between a signed number and its bits, in the steps that `to_bits` and `from_bits` take.
 use mathlib.Core.Path.{_≡_, refl, sym, ap, _∙_}
 use mathlib.Core.Bool.{true, false}
-use Prim.Native.Nat.{ℕ, zero, suc, _-_, _<_, _≤_, _^_}
+use Prim.Native.Nat.{ℕ, zero, suc, _-_, _<_, _^_}
 use native.Mathlib.Omega.{arith}
 use lib.Dec.{T}
 use lib.IntN.{ℤ, pos, negsuc, _+ℤ_, _-ℤ_, negℤ, sucℤ, predℤ, natAbs, +ℤ-idl, +ℤ-one, -ℤ-one}
@@ -105,8 +105,8 @@ module _ (x : ℤ) (s : SFits w64 x) where
     pub minus-cast : T (nonNeg (held (pos 0 -ℤ held (held x +ℤ pos 1)))) × Fits w64 (natAbs (held (pos 0 -ℤ held (held x +ℤ pos 1))))
     minus-cast = rw read (tt, record { fits = omega (arith, s .sfits) })
 
-    pub minus-room : natAbs (held (pos 0 -ℤ held (held x +ℤ pos 1))) ≤ 2 ^ 64 - 1
-    minus-room = rw read (omega (arith, s .sfits))
+    pub minus-small : natAbs (held (pos 0 -ℤ held (held x +ℤ pos 1))) < 2 ^ 63
+    minus-small = rw read (s .sfits)
 
     pub minus-is : 2 ^ 64 - 1 - natAbs (held (pos 0 -ℤ held (held x +ℤ pos 1))) ≡ ofZ w64 x
     minus-is = rw read (facts .bits)

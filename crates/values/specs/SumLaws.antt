@@ -62,9 +62,9 @@ by-test a b false e = inr (ltb-false a b e)
 subtract : (a k s : ℕ) → a < 2 ^ 63 → k < 2 ^ 63 → s ≡ (a + (2 ^ 64 - suc k)) % 2 ^ 64 → Is (toZ w64 s) ≡ sumOf (subℕ a (suc k))
 subtract a k s ha hk es =
     ⊎-elim
-      (λ l. bits-is (negsuc (suc k - suc a)) s (record { sfits = omega arith }) (omega arith) ∙ ap sumOf (sym (simp (lt-ltb a (suc k) l))))
-      (λ g. bits-is (pos (a - suc k)) s (record { sfits = omega arith }) (omega arith) ∙ ap sumOf (sym (simp (le-ltb a (suc k) g))))
-      (by-test a (suc k) (ltb a (suc k)) refl)
+    (λ l. bits-is (negsuc (suc k - suc a)) s (record { sfits = omega arith }) (omega arith) ∙ ap sumOf (sym (simp (lt-ltb a (suc k) l))))
+    (λ g. bits-is (pos (a - suc k)) s (record { sfits = omega arith }) (omega arith) ∙ ap sumOf (sym (simp (le-ltb a (suc k) g))))
+    (by-test a (suc k) (ltb a (suc k)) refl)
 
 -- x and y are the bits of a and b, and s is their sum, cut to 64
 pub record Adds (a b : ℤ) (x y s : ℕ) : Type 0 where

@@ -1,5 +1,6 @@
 -- `values::to_bits` meets its contract.
-use Rattle.values.specs.Bits.{plus-cast, plus-is, minus-add, minus-turn, minus-cast, minus-room, minus-is}
+use native.Mathlib.Omega.{arith}
+use Rattle.values.specs.Bits.{plus-cast, plus-is, minus-add, minus-turn, minus-cast, minus-small, minus-is}
 use Rattle.values.proofs.to_bits.Statement.{statement}
 use Rattle.values.proofs.to_bits.Tie as tie
 
@@ -19,7 +20,7 @@ cast-m : tie.Need-cast-m
 cast-m c = minus-cast (c .before .args .x) (c .before .fits .x) (c .if1 .left)
 
 sub-result : tie.Need-sub-result
-sub-result c = minus-room (c .before .args .x) (c .before .fits .x) (c .if1 .left)
+sub-result c = omega (arith, minus-small (c .before .args .x) (c .before .fits .x) (c .if1 .left))
 
 returns-2 : tie.Need-returns-2
 returns-2 c = minus-is (c .before .args .x) (c .before .fits .x) (c .if1 .left)
