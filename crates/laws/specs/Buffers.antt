@@ -4,15 +4,16 @@ use mathlib.Core.Bool.{Bool, true}
 use mathlib.Core.List.{List}
 use Prim.Native.Nat.{ℕ, _+_, _*_, _≤_, _<_}
 use native.Mathlib.Omega.{arith}
-use lib.ListN.{length}
+use lib.ListN.{length, getD}
 use Rattle.rules.specs.declared.Entry.{Entry}
-use Rattle.rules.specs.Layout.{cellsOf, encode, entriesOf, Dir, Memory, memoryOf, remove, removeOldest}
+use Rattle.rules.specs.Layout.{cellsOf, encode, entriesOf, none, valueOffset, Dir, Memory, memoryOf, remove, removeOldest}
 use Rattle.rules.specs.Recency.{sweepCount, sweep}
 use Rattle.rules.specs.Soundness.{sound}
 use Rattle.rules.specs.Calls.{Holds}
 use Rattle.laws.specs.LayoutLaws.{entries-encode, length-encode}
 use Rattle.laws.specs.SoundnessLaws.{Sound, sound-is}
-use Rattle.laws.specs.SoundMemory.{SoundMemory, memory-of, few, sound-encode}
+use Rattle.laws.specs.SoundMemory.{Fine, SoundMemory, memory-of, few, sound-encode}
+use Rattle.laws.specs.Lists.{each-at}
 use Rattle.laws.specs.Blocks.{sound-remove}
 use Rattle.laws.specs.Kept.{oldest-by}
 
@@ -40,6 +41,17 @@ module _ (dir pool : List ℕ) (t : sound dir pool ≡ true) where
 
   pub given-memory : SoundMemory P before
   given-memory = memory-of given-sound
+
+  -- an entry of the memory, as a record read from the words
+  module _ (i : ℕ) (h : i < length (entriesOf dir)) (e : Entry) (x : e ≡ getD (entriesOf dir) i none) where
+    pub entry-fine : Fine P pool e
+    unfolding memoryOf
+    entry-fine = subst (Fine P pool) (sym x) (each-at i h (given-memory .each))
+
+    -- its value ends inside the pool, and so does its key
+    pub entry-inside : valueOffset e + e .vlen ≤ length pool
+    unfolding memoryOf
+    entry-inside = omega (arith, entry-fine .inside, given-sound .pool-size)
 
   -- a step that leaves a sound memory leaves sound buffers
   pub step-sound : {m : Memory} {dir' pool' : List ℕ} → SoundMemory P m → Holds (length dir) m dir' pool' → sound dir' pool' ≡ true
