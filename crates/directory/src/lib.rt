@@ -70,7 +70,7 @@ pub fn put_front(dir: &mut [u64], i: usize, e: Entry)
     ensures { λ _. ⌜ now (dir .exit) ≡ encode (length (now (dir .entry))) (toFront i e (entriesOf (now (dir .entry)))) ⌝ }
 {
     words::move_up(dir, 2, 6, 6 * i);
-    write(dir, 2, e);
+    write(dir, 2, e); // where the first one was
 }
 
 // Puts e in front of all entries. There is an unused record.
