@@ -2,15 +2,15 @@
 use mathlib.Core.Path.{_≡_, refl, sym, ap, _∙_, subst}
 use mathlib.Core.Bool.{Bool, true}
 use mathlib.Core.List.{List}
-use Prim.Native.Nat.{ℕ, _+_, _*_, _≤_, _<_}
+use Prim.Native.Nat.{ℕ, _+_, _-_, _*_, _≤_, _<_}
 use native.Mathlib.Omega.{arith}
-use lib.ListN.{length, getD}
+use lib.ListN.{length, take, getD}
 use Rattle.rules.specs.declared.Entry.{Entry}
 use Rattle.rules.specs.Layout.{cellsOf, encode, entriesOf, none, valueOffset, Dir, Memory, memoryOf, remove, removeOldest}
 use Rattle.rules.specs.Recency.{sweepCount, sweep}
 use Rattle.rules.specs.Soundness.{sound}
 use Rattle.rules.specs.Calls.{Holds}
-use Rattle.laws.specs.LayoutLaws.{entries-encode, length-encode}
+use Rattle.laws.specs.LayoutLaws.{entries-encode, length-encode, oldest-entries, oldest-pool}
 use Rattle.laws.specs.SoundnessLaws.{Sound, sound-is}
 use Rattle.laws.specs.SoundMemory.{Fine, SoundMemory, memory-of, few, sound-encode}
 use Rattle.laws.specs.Lists.{each-at}
@@ -26,6 +26,19 @@ holds-memory {n} {m} h = rw (h .words, h .bytes, entries-encode n (m .entries))
 pub holds-itself : (dir pool : List ℕ) → Dir dir → Holds (length dir) (memoryOf dir pool) dir pool
 unfolding memoryOf
 holds-itself dir pool d = record { words = d .shape; bytes = refl }
+
+-- the longest unused entries out: none, or all at once
+pub oldest-none : (dir pool : List ℕ) (n : ℕ) → n ≡ 0 → Dir dir → Holds (length dir) (removeOldest n (memoryOf dir pool)) dir pool
+unfolding removeOldest
+oldest-none dir pool n z d = rw z (holds-itself dir pool d)
+
+pub oldest-kept : (dir pool : List ℕ) (n : ℕ) {dir' : List ℕ} {count : ℕ} → n ≤ length (entriesOf dir) → count ≡ length (entriesOf dir) → dir' ≡ encode (length dir) (take (count - n) (entriesOf dir)) → Holds (length dir) (removeOldest n (memoryOf dir pool)) dir' pool
+unfolding memoryOf
+oldest-kept dir pool n h c e =
+    record {
+      words = e ∙ ap (λ (k : ℕ). encode (length dir) (take (k - n) (entriesOf dir))) c ∙ ap (encode (length dir)) (sym (oldest-entries n (memoryOf dir pool) h));
+      bytes = sym (oldest-pool n (memoryOf dir pool));
+    }
 
 -- ---- over a sound memory
 

@@ -2,7 +2,6 @@
 use mathlib.Core.Path.{sym, _∙_}
 use Rattle.rules.specs.Checks.{incrChecks}
 use Rattle.laws.specs.ChecksLaws.{then-stop, then-on}
-use mathlib.Core.Path.{sym, _∙_}
 use borrow.Author.Needs.{needs}
 use Rattle.checks.proofs.of_incr.Statement.{statement}
 use Rattle.checks.proofs.of_incr.Tie as tie

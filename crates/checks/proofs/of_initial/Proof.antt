@@ -1,7 +1,6 @@
 -- `checks::of_initial` meets its contract.
 use mathlib.Core.Path.{sym, ap, _∙_}
 use Rattle.rules.specs.Checks.{checkInitial}
-use mathlib.Core.Path.{sym, ap, _∙_}
 use borrow.Author.Needs.{needs}
 use Rattle.checks.proofs.of_initial.Statement.{statement}
 use Rattle.checks.proofs.of_initial.Tie as tie

@@ -2,7 +2,6 @@
 use mathlib.Core.Path.{sym, _∙_}
 use Rattle.rules.specs.Checks.{keyChecks}
 use Rattle.laws.specs.ChecksLaws.{then-stop, then-on, key-empty, key-long, key-fits}
-use mathlib.Core.Path.{sym, _∙_}
 use borrow.Author.Needs.{needs}
 use Rattle.checks.proofs.of_key.Statement.{statement}
 use Rattle.checks.proofs.of_key.Tie as tie

@@ -2,7 +2,6 @@
 use mathlib.Core.Path.{refl}
 use Rattle.rules.specs.Checks.{takesNil}
 use Rattle.laws.specs.ChecksLaws.{nil-not, nil-taken, nil-refused}
-use mathlib.Core.Path.{refl}
 use borrow.Author.Needs.{needs}
 use Rattle.checks.proofs.of_nil.Statement.{statement}
 use Rattle.checks.proofs.of_nil.Tie as tie

@@ -2,7 +2,6 @@
 use mathlib.Core.Path.{sym, _∙_}
 use Rattle.rules.specs.Checks.{storeChecks}
 use Rattle.laws.specs.ChecksLaws.{then-stop, then-on}
-use mathlib.Core.Path.{sym, _∙_}
 use borrow.Author.Needs.{needs}
 use Rattle.checks.proofs.of_store.Statement.{statement}
 use Rattle.checks.proofs.of_store.Tie as tie

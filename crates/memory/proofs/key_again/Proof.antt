@@ -1,44 +1,40 @@
--- `memory::key_again` meets its contract.
-use mathlib.Core.Path.{_≡_, refl, sym, ap, _∙_}
-use mathlib.Core.List.{List, [], _∷_, _++_}
-use Prim.Native.Nat.{ℕ, zero, suc, _+_, _-_, _*_, _≤_, _<_}
+-- `memory::key_again` meets its contract. The invariant: no entry passed has the key, so the rest decides.
+use Prim.Native.Nat.{_+_, _≤_, _-_}
+use mathlib.Core.Path.{_≡_, sym, _∙_}
+use lib.ListN.{length}
+use Rattle.rules.specs.Layout.{entriesOf}
+use Rattle.laws.specs.Buffers.{given-sound, entry-inside}
+use Rattle.memory.specs.Again.{Again, again-none, again-more, again-here, again-end}
 use native.Mathlib.Omega.{arith}
-use lib.ListN.{length, take, drop, getD, set, length-set}
-use borrow.Author.Needs.{needs}
 use Rattle.memory.proofs.key_again.Statement.{statement}
 use Rattle.memory.proofs.key_again.Tie as tie
-use Rattle.memory.proofs.key_again.Reads as reads
-use Rattle.memory.proofs.key_again.Lts as lts
-use Rattle.directory.proofs.count.Reads as count-reads
-use Rattle.directory.proofs.record_at.Reads as record-at-reads
-use Rattle.values.proofs.key_is.Reads as key-is-reads
 
 abbrev Inv-loop : tie.InvT-loop
-Inv-loop dir pool i n at end j₀ j = ?
+Inv-loop dir pool i n at end j₀ j = (i + 1 ≤ j) × (j ≤ n) × (n ≡ length (entriesOf dir)) × Again dir pool i j
 
 abbrev μ-loop : tie.MeasureT-loop
-μ-loop dir pool i n at end j₀ j = ?
+μ-loop dir pool i n at end j₀ j = n - j
 
 count-requires : tie.Need-count-requires Inv-loop μ-loop
-count-requires c κs = omega arith
+count-requires c κs = given-sound _ _ (c .before .before .pre .0) .dir-is
 
 record-at-requires : tie.Need-record-at-requires Inv-loop μ-loop
-record-at-requires c κs = omega arith
+record-at-requires c κs = (given-sound _ _ (c .before .before .before .pre .0) .dir-is, c .before .before .before .pre .1)
 
 mul-at : tie.Need-mul-at Inv-loop μ-loop
-mul-at c = omega arith
+mul-at c = omega (arith, entry-inside _ _ (c .before .before .before .before .pre .0) _ (c .before .before .before .before .pre .1) _ (c .record-at .ensures))
 
 add-end : tie.Need-add-end Inv-loop μ-loop
-add-end c = omega arith
+add-end c = omega (arith, entry-inside _ _ (c .before .before .before .before .pre .0) _ (c .before .before .before .before .pre .1) _ (c .record-at .ensures))
 
 add-j : tie.Need-add-j Inv-loop μ-loop
 add-j c = omega arith
 
 loop-holds : tie.Need-loop-holds Inv-loop μ-loop
-loop-holds c = omega arith
+loop-holds c = (omega arith, omega arith, c .before .count .ensures, again-none)
 
 record-at-requires-2 : tie.Need-record-at-requires-2 Inv-loop μ-loop
-record-at-requires-2 c κs = omega arith
+record-at-requires-2 c κs = (given-sound _ _ (c .before .before .before .before .before .before .pre .0) .dir-is, omega arith)
 
 sub-key-is : tie.Need-sub-key-is Inv-loop μ-loop
 sub-key-is c = omega arith
@@ -47,13 +43,13 @@ part-key-is-start : tie.Need-part-key-is-start Inv-loop μ-loop
 part-key-is-start c = omega arith
 
 part-key-is-end : tie.Need-part-key-is-end Inv-loop μ-loop
-part-key-is-end c = omega arith
+part-key-is-end c = omega (arith, entry-inside _ _ (c .before .before .before .before .before .before .before .pre .0) _ (c .before .before .before .before .before .before .before .pre .1) _ (c .before .before .before .record-at .ensures))
 
 key-is-requires : tie.Need-key-is-requires Inv-loop μ-loop
-key-is-requires c κs = omega arith
+key-is-requires c κs = omega (arith, entry-inside _ _ (c .before .before .before .before .before .before .before .before .pre .0) _ (omega arith) _ (c .before .record-at2 .ensures))
 
 returns : tie.Need-returns Inv-loop μ-loop
-returns c = omega arith
+returns c = again-here _ _ (c .before .before .before .before .before .before .record-at .ensures) (c .before .before .before .record-at2 .ensures) (omega arith) (c .before .before .before .before .before .loop .inv .3) (sym (c .before .key-is .ensures) ∙ c .if1 .taken)
 
 add-j-2 : tie.Need-add-j-2 Inv-loop μ-loop
 add-j-2 c = omega arith
@@ -62,10 +58,10 @@ loop-less : tie.Need-loop-less Inv-loop μ-loop
 loop-less c = omega arith
 
 loop-again : tie.Need-loop-again Inv-loop μ-loop
-loop-again c = omega arith
+loop-again c = (omega arith, omega arith, c .before .before .before .before .before .loop .inv .2, again-more _ _ (c .before .before .before .before .before .before .record-at .ensures) (c .before .before .before .record-at2 .ensures) (omega arith) (c .before .before .before .before .before .loop .inv .3) (sym (c .before .key-is .ensures) ∙ c .if1 .left))
 
 returns-2 : tie.Need-returns-2 Inv-loop μ-loop
-returns-2 c = omega arith
+returns-2 c = again-end (c .before .loop .inv .3) (omega arith)
 
 pub key-again-spec : {M : Type 1} → statement M
 key-again-spec =

@@ -1,24 +1,20 @@
 -- `memory::remove` meets its contract.
-use mathlib.Core.Path.{_≡_, refl, sym, ap, _∙_}
-use mathlib.Core.List.{List, [], _∷_, _++_}
-use Prim.Native.Nat.{ℕ, zero, suc, _+_, _-_, _*_, _≤_, _<_}
-use native.Mathlib.Omega.{arith}
-use lib.ListN.{length, take, drop, getD, set, length-set}
+use mathlib.Core.Path.{refl}
+use Rattle.rules.specs.Layout.{memoryOf, remove}
+use Rattle.laws.specs.Buffers.{given-sound}
 use borrow.Author.Needs.{needs}
 use Rattle.memory.proofs.remove.Statement.{statement}
 use Rattle.memory.proofs.remove.Tie as tie
-use Rattle.memory.proofs.remove.Reads as reads
-use Rattle.memory.proofs.remove.Lts as lts
-use Rattle.directory.proofs.remove_at.Reads as remove-at-reads
 
 remove-at-requires : tie.Need-remove-at-requires
-remove-at-requires c κs = omega arith
+remove-at-requires c κs = (given-sound _ _ (c .before .before .before .pre .0) .dir-is, c .before .before .before .pre .1)
 
 same-length : tie.Need-same-length
 same-length c = search needs
 
 returns : tie.Need-returns
-returns c = omega arith
+unfolding memoryOf remove
+returns c = record { words = c .before .before .remove-at .ensures; bytes = refl }
 
 pub remove-spec : {M : Type 1} → statement M
 remove-spec = tie.close (tie.spec remove-at-requires same-length returns)
