@@ -1,16 +1,13 @@
 -- A refused answer tells nothing but its number; and the removals that answers report are those of the entries.
-use mathlib.Core.Path.{_≡_, refl, sym, ap, _∙_}
+use mathlib.Core.Path.{_≡_, refl, ap}
 use mathlib.Core.Bool.{Bool, true, false, cond}
-use mathlib.Core.List.{List}
-use Prim.Native.Nat.{ℕ, zero, suc, _+_, _-_, _≤_, _<_}
+use Prim.Native.Nat.{ℕ, zero, suc, _+_, _-_, _≤_}
 use native.Mathlib.Omega.{arith}
 use lib.ListN.{length, length-reverse}
 use lib.Seq.{length-take-le}
 use Rattle.rules.specs.declared.Outcome.{Outcome}
 use Rattle.rules.specs.declared.Outcome.the-variants.{Done, Number, Boolean, Text, Count, Sum, NotSound, ClockZero, KeyEmpty, KeyTooLong, KindUnknown, NilRefused, ExpiryTooLate, NotFound, Exists, NotNumber, SumTooLarge, NoMemory, LineUnreadable}
-use Rattle.rules.specs.declared.Fit.{Fit}
-use Rattle.rules.specs.declared.Fit.the-variants.{Start, Nowhere}
-use Rattle.rules.specs.Layout.{Memory, entryIn, remove, removeOldest}
+use Rattle.rules.specs.Layout.{Memory, entryIn, remove}
 use Rattle.laws.specs.LayoutLaws.{oldest-entries}
 use Rattle.rules.specs.Time.{dead}
 use Rattle.rules.specs.Recency.{line, deads, sweepCount, sweep}

@@ -1,24 +1,24 @@
 -- Soundness is kept by what the calls are made of.
-use mathlib.Core.Path.{_≡_, refl, sym, ap, _∙_, subst}
-use mathlib.Core.Bool.{Bool, true, false, cond, _&&_, true≢false}
-use mathlib.Core.List.{List, [], _∷_, _++_, map}
-use mathlib.Core.Logic.{⊎-elim, _⊎_, inl, inr}
-use Prim.Native.Nat.{ℕ, zero, suc, _+_, _-_, _*_, _^_, _≤_, _<_}
+use mathlib.Core.Path.{_≡_, refl, sym, ap, _∙_}
+use mathlib.Core.Bool.{true}
+use mathlib.Core.List.{List, _++_, map}
+use mathlib.Core.Logic.{⊎-elim, inl, inr}
+use Prim.Native.Nat.{ℕ, _+_, _*_, _≤_, _<_}
 use native.Mathlib.Omega.{arith}
-use lib.ListN.{length, take, drop, getD, length-append}
+use lib.ListN.{length, length-append}
 use lib.IntN.{ℤ}
 use borrow.Author.Tests.{eqb-true}
 use Rattle.rules.specs.declared.Entry.{Entry}
-use Rattle.rules.specs.Layout.{cellsOf, needOf, none, without, toFront, replaceAt, put, part, keyOffset, valueOffset, keyOf, valueBytes, numberBytes, Memory, entryIn, remove, removeOldest, moveToFront}
+use Rattle.rules.specs.Layout.{needOf, without, toFront, put, part, valueOffset, valueBytes, numberBytes, Memory, entryIn, remove, moveToFront}
 use Rattle.laws.specs.LayoutLaws.{length-put}
-use Rattle.laws.specs.CellLaws.{part-first, part-second}
+use Rattle.laws.specs.CellLaws.{part-second}
 use Rattle.rules.specs.Soundness.{valueFits}
 use Rattle.rules.specs.Time.{withExpiry}
 use Rattle.rules.specs.Calls.{Item, entryFor, needFor, placeAt, rewriteAt, overwriteAt, addAt, expireAt}
-use Rattle.laws.specs.Lists.{Each, nil, one, Pairs, none-yet, first, Sub, sub-without, each-sub, each-at, each-map, each-with, each-all, each-replace, each-mapped, pairs-sub, pairs-out, pairs-replace, pairs-mapped}
-use Rattle.laws.specs.Crowd.{Apart, apart-swap, Clear}
+use Rattle.laws.specs.Lists.{Each, one, first, Sub, sub-without, each-sub, each-at, each-map, each-with, each-all, each-replace, each-mapped, pairs-sub, pairs-out, pairs-replace, pairs-mapped}
+use Rattle.laws.specs.Crowd.{apart-swap, Clear}
 use Rattle.laws.specs.SoundMemory.{Fine, SoundMemory}
-use Rattle.laws.specs.Bytes.{Same, same-bytes, part-put, fitsKind, fits-bytes, fine-same, FineItem, fine-item}
+use Rattle.laws.specs.Bytes.{Same, same-bytes, part-put, fine-same, FineItem, fine-item}
 
 pub number-size : (pool : List ℕ) (e : Entry) → e .kind ≡ 3 → valueFits pool e ≡ true → e .vlen ≡ 8
 unfolding valueFits

@@ -1,19 +1,19 @@
 -- Bytes: what a write leaves, and what makes a stored value fit its kind.
-use mathlib.Core.Path.{_≡_, refl, sym, ap, _∙_, subst}
-use mathlib.Core.Bool.{Bool, true, false, cond, _&&_, true≢false}
-use mathlib.Core.List.{List, [], _∷_, _++_, append-nil}
-use mathlib.Core.Logic.{⊎-elim, _⊎_, inl, inr}
-use Prim.Native.Nat.{ℕ, zero, suc, _+_, _-_, _*_, _^_, _≤_, _<_}
+use mathlib.Core.Path.{_≡_, refl, sym, ap, _∙_}
+use mathlib.Core.Bool.{Bool, true, false, cond, _&&_}
+use mathlib.Core.List.{List, [], append-nil}
+use mathlib.Core.Logic.{⊎-elim, _⊎_}
+use Prim.Native.Nat.{ℕ, zero, suc, _+_, _*_, _^_, _≤_, _<_}
 use native.Mathlib.Omega.{arith}
 use native.Mathlib.Nat.{add-zero}
-use lib.Dec.{leb, ltb, eqb}
-use lib.ListN.{length, take, drop, getD, length-append, length-take, length-drop}
+use lib.Dec.{ltb, eqb}
+use lib.ListN.{length, take, drop, getD}
 use lib.Seq.{getD-take, getD-drop}
 use lib.IntN.{ℤ, pos, negsuc}
-use borrow.Author.Tests.{eqb-true, eq-eqb}
+use borrow.Author.Tests.{eqb-true}
 use Rattle.rules.specs.declared.Entry.{Entry}
-use Rattle.rules.specs.Layout.{needOf, put, part, keyOffset, valueOffset, keyOf, valueBytes, numberBytes, bytesOf}
-use Rattle.laws.specs.CellLaws.{part-before, part-behind, part-first, part-second}
+use Rattle.rules.specs.Layout.{needOf, put, part, keyOffset, valueOffset, keyOf, valueBytes, numberBytes}
+use Rattle.laws.specs.CellLaws.{part-before, part-behind, part-first}
 use Rattle.rules.specs.Soundness.{valueFits}
 use Rattle.rules.specs.Calls.{Item, entryFor, needFor, booleanByte, valueGiven}
 use Rattle.laws.specs.SoundMemory.{Fine}

@@ -1,29 +1,28 @@
 -- From memories to words and bytes: a call keeps what its work keeps.
-use mathlib.Core.Path.{_≡_, refl, sym, ap, _∙_, subst}
-use mathlib.Core.Bool.{Bool, true, false, not, _&&_, _||_, true≢false}
-use mathlib.Core.List.{List, [], _∷_}
+use mathlib.Core.Path.{_≡_, refl, sym, _∙_}
+use mathlib.Core.Bool.{true, false, not, _||_, true≢false}
+use mathlib.Core.List.{List, []}
 use mathlib.Core.Logic.{⊎-elim, _⊎_, inl, inr}
-use Prim.Native.Nat.{ℕ, zero, suc, _+_, _*_, _^_, _≤_, _<_}
+use Prim.Native.Nat.{ℕ, _+_, _*_, _^_, _≤_, _<_}
 use native.Mathlib.Omega.{arith}
 use lib.Dec.{eqb, ltb}
 use lib.ListN.{length}
 use lib.IntN.{ℤ}
 use borrow.Author.Tests.{eqb-true, eqb-false, ltb-false, not-false}
-use Rattle.rules.specs.declared.Entry.{Entry}
-use Rattle.rules.specs.declared.Outcome.the-variants.{NotSound, KeyEmpty, KeyTooLong, KindUnknown}
+use Rattle.rules.specs.declared.Outcome.the-variants.{KeyEmpty, KeyTooLong, KindUnknown}
 use Rattle.rules.specs.declared.Check.{Check}
 use Rattle.rules.specs.declared.Check.the-variants.{Passed, Refused}
 use Rattle.rules.specs.declared.Operation.{Operation}
 use Rattle.rules.specs.declared.Initial.{Initial}
 use Rattle.rules.specs.Layout.{cellsOf, encode, entriesOf, Dir, Memory, memoryOf}
 use Rattle.laws.specs.LayoutLaws.{entries-encode, length-encode, dir-encode}
-use Rattle.rules.specs.Soundness.{any, sound, keysDiffer, audit, rightLengths}
+use Rattle.rules.specs.Soundness.{any, sound, keysDiffer, audit}
 use Rattle.laws.specs.SoundnessLaws.{Sound, sound-is}
-use Rattle.rules.specs.Checks.{_then_, refuse, checkLengths, checkSound, checkClock, checkKey, checkKind, checkNil, checkLifetime, clockChecks, keyChecks, storeChecks, expireChecks, checkInitial, incrChecks}
+use Rattle.rules.specs.Checks.{_then_, refuse, checkKey, checkKind, checkNil, checkLifetime, clockChecks, keyChecks, storeChecks, checkInitial, incrChecks}
 use Rattle.laws.specs.LeastLossLaws.{first-passed, next-passed, refuse-not}
-use Rattle.rules.specs.Calls.{Work, call, Item, itemOf, valueGiven}
-use Rattle.laws.specs.SoundMemory.{SoundMemory, memory-of, few, sound-of}
-use Rattle.laws.specs.Bytes.{fitsKind, FineItem, given-fits}
+use Rattle.rules.specs.Calls.{Work, call, itemOf}
+use Rattle.laws.specs.SoundMemory.{SoundMemory, memory-of, sound-of}
+use Rattle.laws.specs.Bytes.{FineItem, given-fits}
 use Rattle.laws.specs.Keys.{Audited, differ-of, of-differ}
 use Rattle.laws.specs.Booleans.{and-left, and-right, or-cases}
 

@@ -11,7 +11,7 @@ use Rattle.rules.specs.declared.Entry.{Entry}
 use Rattle.rules.specs.declared.Fit.{Fit}
 use Rattle.rules.specs.declared.Fit.the-variants.{Start, Nowhere}
 use Rattle.rules.specs.Recency.{deads, after, left, rounds}
-use Rattle.rules.specs.Place.{holds, held, freeRun, fitFrom, firstFree, Placed, run}
+use Rattle.rules.specs.Place.{holds, held, freeRun, fitFrom, firstFree, run}
 use Rattle.laws.specs.PlaceLaws.{Looks, first-free, FreeBehind, Fewest}
 use Rattle.laws.specs.RunIs.{run-start, run-nowhere}
 

@@ -2,8 +2,8 @@
 use mathlib.Core.Path.{_≡_, refl, sym, ap, _∙_, subst}
 use mathlib.Core.Bool.{Bool, true, false}
 use mathlib.Core.List.{List, [], _∷_, _++_, reverse, reverse-cons, reverse-reverse}
-use mathlib.Core.Logic.{⊎-elim, _⊎_, inl, inr}
-use Prim.Native.Nat.{ℕ, zero, suc, _+_, _-_, _*_, _≤_, _<_}
+use mathlib.Core.Logic.{inl, inr}
+use Prim.Native.Nat.{ℕ, _+_, _-_, _*_, _≤_, _<_}
 use native.Mathlib.Omega.{arith}
 use lib.Dec.{leb, ltb}
 use lib.ListN.{length, getD}
@@ -20,11 +20,11 @@ use Rattle.rules.specs.declared.Operation.{Operation}
 use Rattle.rules.specs.declared.Initial.the-variants.{Given}
 use Rattle.rules.specs.declared.Fit.{Fit}
 use Rattle.rules.specs.declared.Fit.the-variants.{Start, Nowhere}
-use Rattle.rules.specs.Layout.{cellsOf, needOf, none, memoryOf, keyOf, valueBytes, put, Memory, remove, removeOldest}
+use Rattle.rules.specs.Layout.{cellsOf, needOf, none, memoryOf, put, Memory, remove, removeOldest}
 use Rattle.laws.specs.LayoutLaws.{entries-encode}
 use Rattle.rules.specs.Checks.{_then_, checkKind, checkNil, checkLifetime, checkInitial, keyChecks, storeChecks, incrChecks}
 use Rattle.laws.specs.CallsLaws.{call-passed}
-use Rattle.rules.specs.Recency.{line, sweepCount, sweep, left, rounds, gone}
+use Rattle.rules.specs.Recency.{line, sweepCount, sweep, left, gone}
 use Rattle.laws.specs.RecencyLaws.{gone-left, rounds-few, never-over}
 use Rattle.rules.specs.Place.{holds, held, Placed, run}
 use Rattle.laws.specs.PlaceLaws.{RanBy, run-ran}
@@ -34,8 +34,8 @@ use Rattle.rules.specs.Answer.{numberOf, fieldsOf}
 use Rattle.rules.specs.LookUp.{lookUp}
 use Rattle.rules.specs.Calls.{Work, call, afterSweep, itemOf, storeWork, storeCall, incrWork, incrCall, Item, entryFor, needFor, placeAt, searched, evicted, fitOutcome, placeFit, placedBy, placeAnew}
 use Rattle.rules.specs.LeastLoss.{passed, notSafe, storeMustPlace, storePlacesAnew, incrMustPlace, incrPlacesAnew, LeastLossOf, Demand3, ownOut, restFor, lineFor, LeastLoss, Cheapest, Costs, Place}
-use Rattle.laws.specs.LeastLossLaws.{passed-is, first-passed, keyed-sound, store-anew, incr-anew, cheapest, no-place, nothing-left, gone-counted, left-counted, after-rounds, stored-key, stored-value}
-use Rattle.laws.specs.Lists.{Each, nil, one, Pairs, none-yet, first, Sub, end, skip, keep, sub-all, sub-without, each-sub, each-map, each-with, each-all, each-at}
+use Rattle.laws.specs.LeastLossLaws.{passed-is, first-passed, keyed-sound, store-anew, incr-anew, cheapest, no-place, nothing-left, left-counted, after-rounds, stored-key, stored-value}
+use Rattle.laws.specs.Lists.{Each, nil, one, Pairs, none-yet, first, each-sub, each-map, each-with, each-all, each-at}
 use Rattle.laws.specs.Crowd.{Apart, Clear, held-none, clear-cells}
 use Rattle.laws.specs.SoundMemory.{SoundMemory, memory-of}
 use Rattle.laws.specs.Bytes.{Same}

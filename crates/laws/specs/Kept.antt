@@ -1,11 +1,11 @@
 -- What the parts of the calls keep, every call keeps. Proved once, for any property of a memory.
-use mathlib.Core.Path.{_≡_, refl, sym, ap, _∙_, subst}
-use mathlib.Core.Bool.{Bool, true, false, cond, _&&_, true≢false}
-use mathlib.Core.List.{List, [], _∷_, _++_, map, reverse}
-use Prim.Native.Nat.{ℕ, zero, suc, _+_, _-_, _*_, _^_, _≤_, _<_}
+use mathlib.Core.Path.{_≡_, refl, sym, ap, _∙_}
+use mathlib.Core.Bool.{Bool, true, false, cond}
+use mathlib.Core.List.{List, [], map}
+use Prim.Native.Nat.{ℕ, zero, suc, _+_, _-_, _≤_, _<_}
 use native.Mathlib.Omega.{arith}
 use lib.Dec.{eqb}
-use lib.ListN.{length, getD}
+use lib.ListN.{length}
 use lib.IntN.{ℤ, _+ℤ_}
 use borrow.Author.Tests.{eqb-true, eqb-false}
 use Rattle.rules.specs.declared.Entry.{Entry}
@@ -21,15 +21,15 @@ use Rattle.rules.specs.declared.Operation.{Operation}
 use Rattle.rules.specs.declared.Operation.the-variants.{Set}
 use Rattle.rules.specs.declared.Initial.{Initial}
 use Rattle.rules.specs.declared.Initial.the-variants.{Given, Absent}
-use Rattle.rules.specs.Layout.{cellsOf, Memory, entryIn, keyOf, remove, removeOldest, moveToFront, numberAt}
-use Rattle.rules.specs.Time.{dead, expiryOf, withExpiry}
+use Rattle.rules.specs.Layout.{cellsOf, Memory, entryIn, remove, removeOldest, moveToFront, numberAt}
+use Rattle.rules.specs.Time.{dead, withExpiry}
 use Rattle.rules.specs.LookUp.{lookUp}
 use Rattle.rules.specs.Recency.{line, left, gone, sweepCount, sweep}
 use Rattle.rules.specs.Place.{held, Placed, run}
 use Rattle.laws.specs.PlaceLaws.{RanBy, run-ran}
 use Rattle.laws.specs.CellLaws.{held-reverse}
 use Rattle.laws.specs.LeastLossLaws.{after-rounds}
-use Rattle.rules.specs.Calls.{Work, did, Item, itemOf, needFor, placeAt, overwriteAt, addAt, expireAt, sameLength, afterSweep, getFound, getWork, deleteFound, deleteWork, searched, evicted, placeFit, placedBy, placeAnew, storeOver, storeItem, mostRounds, admits, storeAdmitted, storeFound, storeWork, inRange, incrLive, incrNew, incrInitial, incrFound, incrWork, expireFound, flushAllWork, flushed, upTo, flushExpiredWork}
+use Rattle.rules.specs.Calls.{did, Item, itemOf, needFor, placeAt, overwriteAt, addAt, expireAt, sameLength, afterSweep, getFound, getWork, deleteFound, deleteWork, searched, evicted, placeFit, placedBy, placeAnew, storeOver, storeItem, mostRounds, admits, storeAdmitted, storeFound, storeWork, inRange, incrLive, incrNew, incrInitial, incrFound, incrWork, expireFound, flushAllWork, flushed, upTo, flushExpiredWork}
 use Rattle.laws.specs.Lists.{Each}
 use Rattle.laws.specs.Bytes.{FineItem}
 use Rattle.laws.specs.Finding.{Other, Means, Finds, finds}

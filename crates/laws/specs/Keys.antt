@@ -1,24 +1,24 @@
 -- All keys differ, as facts; and that it is kept by what the calls are made of.
-use mathlib.Core.Path.{_≡_, refl, sym, ap, _∙_, subst}
-use mathlib.Core.Bool.{Bool, true, false, not, cond, _&&_, _||_, true≢false}
+use mathlib.Core.Path.{_≡_, refl, sym, ap, _∙_}
+use mathlib.Core.Bool.{Bool, true, false, not, _||_, true≢false}
 use mathlib.Core.List.{List, [], _∷_, _++_, map}
-use Prim.Native.Nat.{ℕ, zero, suc, _+_, _-_, _*_, _^_, min, _≤_, _<_}
+use Prim.Native.Nat.{ℕ, _+_, _*_, _≤_, _<_}
 use native.Mathlib.Omega.{arith}
-use lib.ListN.{length, take, drop, getD, length-append, length-take, length-drop}
+use lib.ListN.{length, getD, length-take, length-drop}
 use lib.IntN.{ℤ}
 use borrow.Author.Tests.{not-true}
 use Rattle.rules.specs.declared.Entry.{Entry}
-use Rattle.rules.specs.Layout.{cellsOf, needOf, none, without, toFront, replaceAt, put, part, keyOffset, valueOffset, keyOf, valueBytes, numberBytes, Memory, entryIn, remove, moveToFront}
+use Rattle.rules.specs.Layout.{none, without, toFront, put, part, valueOffset, keyOf, numberBytes, Memory, entryIn, remove, moveToFront}
 use Rattle.laws.specs.CellLaws.{part-before, part-first}
 use Rattle.rules.specs.Place.{held}
 use Rattle.rules.specs.Time.{withExpiry}
 use Rattle.rules.specs.LookUp.{same, keyIs}
-use Rattle.rules.specs.Soundness.{any, valueFits, keysDiffer}
+use Rattle.rules.specs.Soundness.{any, keysDiffer}
 use Rattle.rules.specs.Calls.{Item, entryFor, needFor, placeAt, rewriteAt, overwriteAt, addAt, expireAt}
-use Rattle.laws.specs.Lists.{Each, nil, one, Pairs, none-yet, first, sub-without, each-sub, each-at, each-map, each-with, pairs-sub, pairs-out, pairs-replace, pairs-mapped, pairs-with}
+use Rattle.laws.specs.Lists.{Each, nil, one, Pairs, none-yet, first, sub-without, each-sub, each-at, each-with, pairs-sub, pairs-out, pairs-replace, pairs-mapped, pairs-with}
 use Rattle.laws.specs.Crowd.{Clear, clear-of}
 use Rattle.laws.specs.SoundMemory.{Fine, SoundMemory, some-cells}
-use Rattle.laws.specs.Bytes.{Same, FineItem}
+use Rattle.laws.specs.Bytes.{Same}
 use Rattle.laws.specs.Finding.{same-is, Other, not-same, Means}
 use Rattle.laws.specs.Blocks.{number-size, remove-sub, remove-same, sound-remove, sound-front, sound-expire, sound-expire-all, others-same, sound-overwrite, sound-add, place-same, sound-place}
 use Rattle.laws.specs.Kept.{Kept}

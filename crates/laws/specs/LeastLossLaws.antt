@@ -3,11 +3,11 @@ use mathlib.Core.Path.{_≡_, refl, sym, ap, _∙_, subst}
 use mathlib.Core.Bool.{Bool, true, false, not, cond, _||_, true≢false}
 use mathlib.Core.List.{List, [], _∷_, _++_, reverse, reverse-reverse}
 use mathlib.Core.Logic.{⊎-elim, _⊎_, inl, inr}
-use Prim.Native.Nat.{ℕ, zero, suc, _+_, _-_, _*_, _≤_, _<_}
+use Prim.Native.Nat.{ℕ, zero, suc, _+_, _*_, _≤_, _<_}
 use native.Mathlib.Omega.{arith}
 use lib.Dec.{eqb, ltb}
 use lib.IntN.{ℤ, _+ℤ_}
-use lib.ListN.{length, drop, getD, length-append, length-reverse}
+use lib.ListN.{length, drop, length-append, length-reverse}
 use lib.Seq.{drop-at}
 use borrow.Author.Tests.{eqb-false, not-true, not-false}
 use Rattle.rules.specs.declared.Entry.{Entry}
@@ -20,25 +20,19 @@ use Rattle.rules.specs.declared.Found.the-variants.{Live, Dead, Missing}
 use Rattle.rules.specs.declared.Operation.{Operation}
 use Rattle.rules.specs.declared.Operation.the-variants.{Set, SafeSet, Add, SafeAdd, Replace}
 use Rattle.rules.specs.declared.Initial.the-variants.{Given}
-use Rattle.rules.specs.declared.Fit.{Fit}
-use Rattle.rules.specs.declared.Fit.the-variants.{Start, Nowhere}
-use Rattle.rules.specs.Layout.{cellsOf, none, keyOf, valueBytes, put, Memory, memoryOf, entriesOf, remove, removeOldest}
-use Rattle.laws.specs.LayoutLaws.{entries-encode, oldest-entries, oldest-pool}
-use Rattle.rules.specs.Recency.{line, deads, sweepCount, sweep, after, left, rounds, gone}
-use Rattle.laws.specs.RecencyLaws.{left-nil, gone-left, rounds-few, line-oldest, deads-within, sweep-pool, never-over}
-use Rattle.rules.specs.Place.{held, Placed, run}
-use Rattle.laws.specs.PlaceLaws.{FreeBehind, Fewest, RanBy, Ran, run-ran}
-use Rattle.laws.specs.CellLaws.{Alone, alone-of, alone-take, alone-without, alone-reverse, held-append, alone-apart, held-each, keeps-bytes, part-first, part-second}
-use Rattle.rules.specs.Answer.{numberOf, fieldsOf}
-use Rattle.rules.specs.LookUp.{lookUp}
-use Rattle.rules.specs.Soundness.{all, sound}
-use Rattle.laws.specs.SoundnessLaws.{Sound, sound-is, all-here, all-more}
-use Rattle.rules.specs.Checks.{_then_, refuse, checkSound, checkClock, checkKey, checkKind, checkNil, checkLifetime, clockChecks, keyChecks, storeChecks, incrChecks, checkInitial}
+use Rattle.rules.specs.Layout.{none, keyOf, valueBytes, put, Memory, removeOldest}
+use Rattle.rules.specs.Recency.{line, after, left, rounds, gone}
+use Rattle.laws.specs.RecencyLaws.{left-nil, gone-left, line-oldest}
+use Rattle.rules.specs.Place.{held}
+use Rattle.laws.specs.PlaceLaws.{FreeBehind, Fewest}
+use Rattle.laws.specs.CellLaws.{Alone, held-append, alone-apart, part-first, part-second}
+use Rattle.rules.specs.Soundness.{sound}
+use Rattle.laws.specs.SoundnessLaws.{Sound, sound-is}
+use Rattle.rules.specs.Checks.{_then_, refuse, checkSound, checkClock, checkKey, clockChecks, keyChecks}
 use Rattle.laws.specs.ChecksLaws.{then-first, then-next}
-use Rattle.laws.specs.CallsLaws.{call-passed}
-use Rattle.rules.specs.Calls.{Work, call, afterSweep, deleteFound, sameLength, storeOver, storeItem, mostRounds, admits, storeAdmitted, storeFound, storeWork, itemOf, storeCall, inRange, incrNew, incrInitial, incrFound, incrWork, incrCall, Item, entryFor, needFor, placeAt, searched, evicted, fitOutcome, placeFit, placedBy, placeAnew}
-use Rattle.rules.specs.LeastLoss.{passed, overwritesNone, notSafe, storeMustPlace, storePlacesAnew, incrMustPlace, incrPlacesAnew, ownOut, lineFor, restFor, LeastLossOf, Demand3, Place, FreeOrWithin, Costs, Cheapest, SameBytes, LeastLoss}
-use Rattle.laws.specs.Booleans.{and-left, and-right, or-right}
+use Rattle.rules.specs.Calls.{deleteFound, sameLength, storeOver, storeItem, mostRounds, admits, storeAdmitted, storeFound, itemOf, inRange, incrNew, incrInitial, incrFound, Item, entryFor, placeAnew}
+use Rattle.rules.specs.LeastLoss.{passed, overwritesNone, notSafe, storeMustPlace, incrMustPlace, ownOut, Place, FreeOrWithin, Costs, Cheapest}
+use Rattle.laws.specs.Booleans.{true-at, and-left, and-right, or-right}
 
 -- ---- free behind rounds is free or held within them
 
@@ -168,12 +162,10 @@ thirty Replace t = refl
 pub store-anew : (op : Operation) (clock : ℕ) (item : Item) (removed : ℕ) (m : Memory) (found : Found) → notSafe op ≡ true → storeMustPlace op item m found ≡ true → storeFound op clock item removed m found ≡ placeAnew 30 clock item Done removed (ownOut m found)
 unfolding storeFound storeAdmitted storeMustPlace
 store-anew op clock item removed m found safe t =
-    let b1 : Bool = passed (admits op found) in
-    let b2 : Bool = overwritesNone item m found in
-    let z : eqb (item .kind) 0 ≡ false = not-true (eqb (item .kind) 0) (all-here (not (eqb (item .kind) 0)) (b1 ∷ b2 ∷ []) t) in
-    let t1 : all (b1 ∷ b2 ∷ []) ≡ true = all-more (not (eqb (item .kind) 0)) (b1 ∷ b2 ∷ []) t in
-    let ad : admits op found ≡ Passed = passed-is (admits op found) (all-here b1 (b2 ∷ []) t1) in
-    let o : b2 ≡ true = all-here b2 [] (all-more b1 (b2 ∷ []) t1) in
+    let bs : List Bool = not (eqb (item .kind) 0) ∷ passed (admits op found) ∷ overwritesNone item m found ∷ [] in
+    let z : eqb (item .kind) 0 ≡ false = not-true (eqb (item .kind) 0) (true-at bs 0 t) in
+    let ad : admits op found ≡ Passed = passed-is (admits op found) (true-at bs 1 t) in
+    let o : overwritesNone item m found ≡ true = true-at bs 2 t in
     ap (storeAdmitted op clock item removed m found) ad
     ∙ ap (λ (b : Bool). cond b (deleteFound removed m found) (storeItem (mostRounds op) clock item Done removed m found)) z
     ∙ ap (λ (k : ℕ). storeItem k clock item Done removed m found) (thirty op safe)

@@ -1,24 +1,21 @@
 -- A memory that is not sound is left as it is by every call but make fresh; and no call changes a length.
-use mathlib.Core.Path.{_≡_, refl, sym, ap, _∙_, subst}
+use mathlib.Core.Path.{_≡_, refl}
 use mathlib.Core.Bool.{Bool, true, false, not, cond}
-use mathlib.Core.List.{List, [], _∷_}
-use Prim.Native.Nat.{ℕ, _+_, _*_, _^_, _≤_, _<_}
+use mathlib.Core.List.{List, []}
+use Prim.Native.Nat.{ℕ}
 use native.Mathlib.Omega.{arith}
 use lib.ListN.{length}
-use lib.IntN.{ℤ}
 use Rattle.rules.specs.declared.Outcome.the-variants.{NotSound}
-use Rattle.rules.specs.declared.Check.{Check}
 use Rattle.rules.specs.declared.Check.the-variants.{Passed, Refused}
-use Rattle.rules.specs.declared.Answer.{Answer}
-use Rattle.rules.specs.Answer.{plain}
-use Rattle.rules.specs.Layout.{cellsOf, encode, Memory, memoryOf}
+use Rattle.rules.specs.Layout.{cellsOf, memoryOf}
 use Rattle.laws.specs.LayoutLaws.{length-encode}
 use Rattle.rules.specs.Soundness.{sound, rightLengths}
 use Rattle.rules.specs.Checks.{_then_, refuse, checkLengths, checkSound, clockChecks, keyChecks, expireChecks, storeChecks, incrChecks}
-use Rattle.rules.specs.Calls.{Work, Result, call, freshCall, freshWork, getCall, deleteCall, storeCall, incrCall, expireCall, flushAllCall, flushExpiredCall}
+use Rattle.rules.specs.Calls.{call, freshCall, freshWork, getCall, deleteCall, storeCall, incrCall, expireCall, flushAllCall, flushExpiredCall}
 use Rattle.laws.specs.SoundMemory.{SoundMemory}
+use Rattle.laws.specs.SoundnessLaws.{lengths-are}
 use Rattle.laws.specs.Carry.{Carries, sound-carries}
-use Rattle.laws.specs.Steps.{Call, fresh, get, store, delete, incr, expire, flush-all, flush-expired, Buffers, step, carries-step, Lengths, lengths-are}
+use Rattle.laws.specs.Steps.{Call, fresh, get, store, delete, incr, expire, flush-all, flush-expired, Buffers, step, carries-step}
 
 abbrev pub NotFresh : Call → Type 0
 NotFresh fresh = ⊥

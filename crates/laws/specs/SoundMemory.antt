@@ -1,21 +1,21 @@
 -- A sound memory, as facts on its entries and pool; the test on words and bytes is equivalent to it.
 use mathlib.Core.Path.{_≡_, refl, sym, ap, _∙_, subst}
-use mathlib.Core.Bool.{Bool, true, false, cond, _&&_, true≢false}
+use mathlib.Core.Bool.{Bool, true}
 use mathlib.Core.List.{List, [], _∷_, _++_}
-use Prim.Native.Nat.{ℕ, zero, suc, _+_, _-_, _*_, _/_, _^_, _≤_, _<_}
+use Prim.Native.Nat.{ℕ, zero, suc, _+_, _-_, _*_, _^_, _≤_, _<_}
 use native.Mathlib.Omega.{arith}
-use lib.Dec.{leb, ltb, eqb}
-use lib.ListN.{length, take, drop, getD, replicate, length-append}
+use lib.Dec.{leb, ltb}
+use lib.ListN.{length, drop, getD, replicate}
 use lib.Seq.{drop-at, drop-drop}
-use borrow.Author.Tests.{eqb-true, leb-true, ltb-true, le-leb, lt-ltb, eq-eqb}
+use borrow.Author.Tests.{leb-true, ltb-true, le-leb, lt-ltb, eq-eqb}
 use Rattle.rules.specs.declared.Entry.{Entry}
-use Rattle.rules.specs.Layout.{cellsOf, needOf, words, flat, encode, entriesOf, Dir, Memory, memoryOf}
-use Rattle.laws.specs.LayoutLaws.{entries-encode, length-encode, length-flat, dir-encode}
+use Rattle.rules.specs.Layout.{cellsOf, needOf, flat, encode, entriesOf, Dir, Memory, memoryOf}
+use Rattle.laws.specs.LayoutLaws.{entries-encode, length-encode, length-flat}
 use Rattle.rules.specs.Place.{freeRun}
-use Rattle.rules.specs.Soundness.{all, every, isZero, rightLengths, valueFits, entrySound, noneShared, sound}
-use Rattle.laws.specs.SoundnessLaws.{Sound, sound-is}
+use Rattle.rules.specs.Soundness.{every, isZero, rightLengths, valueFits, entrySound, noneShared, sound}
+use Rattle.laws.specs.SoundnessLaws.{Sound}
 use Rattle.laws.specs.Lists.{Each, nil, one, Pairs, none-yet, first, each-map, each-tail, each-head}
-use Rattle.laws.specs.Crowd.{Apart, Some, Clear, run-clear, clear-run, few-entries}
+use Rattle.laws.specs.Crowd.{Apart, Some, run-clear, clear-run, few-entries}
 use Rattle.laws.specs.Booleans.{and-left, and-right, true-at}
 
 -- "each entry has a kind of 1, 3 or 4 with a value that fits it, flags below 2^32, key length 1 to 65,535, a run inside the pool"

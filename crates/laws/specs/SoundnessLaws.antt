@@ -1,6 +1,6 @@
 -- What a sound memory is: the test as facts.
 use mathlib.Core.Path.{_≡_, refl, sym, ap, _∙_}
-use mathlib.Core.Bool.{Bool, true, false, not, _&&_, true≢false}
+use mathlib.Core.Bool.{Bool, true, false, not}
 use mathlib.Core.List.{List, [], _∷_, _++_}
 use Prim.Native.Nat.{ℕ, zero, suc, _+_, _-_, _*_, _≤_, _<_}
 use native.Mathlib.Omega.{arith}
@@ -8,13 +8,13 @@ use native.Mathlib.Nat.{add-zero, add-suc, suc-add}
 use lib.Dec.{leb, ltb, eqb}
 use lib.ListN.{length, take, drop, getD, replicate, length-drop, take-append-drop}
 use lib.Seq.{take-add, drop-drop}
-use borrow.Author.Tests.{eqb-true, leb-true, ltb-true, not-true}
+use borrow.Author.Tests.{eqb-true, eq-eqb, leb-true, le-leb, ltb-true, not-true}
 use Rattle.rules.specs.declared.Entry.{Entry}
 use Rattle.rules.specs.Layout.{cellsOf, needOf, words, flat, encode, entryOf, decode, entriesOf, Dir}
 use Rattle.laws.specs.LayoutLaws.{length-entries}
 use Rattle.rules.specs.Place.{holds, held, freeRun}
-use Rattle.rules.specs.Soundness.{all, every, isZero, rightLengths, entrySound, noneShared, sound}
-use Rattle.laws.specs.Booleans.{and-left, and-right}
+use Rattle.rules.specs.Soundness.{every, isZero, rightLengths, entrySound, noneShared, sound}
+use Rattle.laws.specs.Booleans.{and-left, and-right, true-at}
 
 -- ---- conditions
 
@@ -67,6 +67,38 @@ dir-of (a ∷ n ∷ w) l f r z =
       count = len;
     }
 
+-- ---- lengths
+
+-- the right lengths, as facts
+pub record Lengths (dir pool : List ℕ) : Type 0 where
+  pub some-cell : 1 ≤ cellsOf pool
+  pub few-cells : cellsOf pool ≤ 1024
+  pub pool-size : length pool ≡ 32 * cellsOf pool
+  pub dir-size : length dir ≡ 2 + 6 * cellsOf pool
+
+pub lengths-are : (dir pool : List ℕ) → rightLengths dir pool ≡ true → Lengths dir pool
+unfolding rightLengths
+lengths-are dir pool t =
+    let P : ℕ = cellsOf pool in
+    let bs : List Bool = eqb (length pool) (32 * P) ∷ leb 1 P ∷ leb P 1024 ∷ eqb (length dir) (2 + 6 * P) ∷ [] in
+    record {
+      some-cell = leb-true 1 P (true-at bs 1 t);
+      few-cells = leb-true P 1024 (true-at bs 2 t);
+      pool-size = eqb-true (length pool) (32 * P) (true-at bs 0 t);
+      dir-size = eqb-true (length dir) (2 + 6 * P) (true-at bs 3 t);
+    }
+
+pub are-lengths : (dir pool : List ℕ) → Lengths dir pool → rightLengths dir pool ≡ true
+unfolding rightLengths
+are-lengths dir pool l =
+    let P : ℕ = cellsOf pool in
+    rw (
+      eq-eqb (length pool) (32 * P) (l .pool-size),
+      le-leb 1 P (l .some-cell),
+      le-leb P 1024 (l .few-cells),
+      eq-eqb (length dir) (2 + 6 * P) (l .dir-size),
+    )
+
 -- ---- a sound memory
 
 pub record Sound (dir pool : List ℕ) : Type 0 where
@@ -79,46 +111,30 @@ pub record Sound (dir pool : List ℕ) : Type 0 where
   pub entries-sound : every (entrySound pool) (entriesOf dir) ≡ true
   pub none-shared : noneShared (entriesOf dir) ≡ true
 
--- the conditions one by one
-pub all-here : (b : Bool) (bs : List Bool) → all (b ∷ bs) ≡ true → b ≡ true
-all-here b bs t = and-left b (all bs) t
-
-pub all-more : (b : Bool) (bs : List Bool) → all (b ∷ bs) ≡ true → all bs ≡ true
-all-more b bs t = and-right b (all bs) t
-
 pub sound-is : (dir pool : List ℕ) → sound dir pool ≡ true → Sound dir pool
-unfolding sound rightLengths
+unfolding sound
 sound-is dir pool t =
     let P : ℕ = cellsOf pool in
-    let c1 : Bool = eqb (length pool) (32 * P) in
-    let c2 : Bool = leb 1 P in
-    let c3 : Bool = leb P 1024 in
-    let c4 : Bool = eqb (length dir) (2 + 6 * P) in
-    let b0 : Bool = rightLengths dir pool in
-    let b1 : Bool = eqb (getD dir 0 0) 1 in
-    let b2 : Bool = leb (getD dir 1 0) P in
-    let b3 : Bool = every isZero (drop (2 + 6 * getD dir 1 0) dir) in
-    let b4 : Bool = every (entrySound pool) (entriesOf dir) in
-    let b5 : Bool = noneShared (entriesOf dir) in
-    let s0 : all (c1 ∷ c2 ∷ c3 ∷ c4 ∷ []) ≡ true = all-here b0 (b1 ∷ b2 ∷ b3 ∷ b4 ∷ b5 ∷ []) t in
-    let s1 : all (c2 ∷ c3 ∷ c4 ∷ []) ≡ true = all-more c1 (c2 ∷ c3 ∷ c4 ∷ []) s0 in
-    let s2 : all (c3 ∷ c4 ∷ []) ≡ true = all-more c2 (c3 ∷ c4 ∷ []) s1 in
-    let s3 : all (c4 ∷ []) ≡ true = all-more c3 (c4 ∷ []) s2 in
-    let t1 : all (b1 ∷ b2 ∷ b3 ∷ b4 ∷ b5 ∷ []) ≡ true = all-more b0 (b1 ∷ b2 ∷ b3 ∷ b4 ∷ b5 ∷ []) t in
-    let t2 : all (b2 ∷ b3 ∷ b4 ∷ b5 ∷ []) ≡ true = all-more b1 (b2 ∷ b3 ∷ b4 ∷ b5 ∷ []) t1 in
-    let t3 : all (b3 ∷ b4 ∷ b5 ∷ []) ≡ true = all-more b2 (b3 ∷ b4 ∷ b5 ∷ []) t2 in
-    let t4 : all (b4 ∷ b5 ∷ []) ≡ true = all-more b3 (b4 ∷ b5 ∷ []) t3 in
-    let size : length dir ≡ 2 + 6 * P = eqb-true (length dir) (2 + 6 * P) (all-here c4 [] s3) in
-    let few : getD dir 1 0 ≤ P = leb-true (getD dir 1 0) P (all-here b2 (b3 ∷ b4 ∷ b5 ∷ []) t2) in
+    let bs : List Bool =
+    rightLengths dir pool
+    ∷ eqb (getD dir 0 0) 1
+    ∷ leb (getD dir 1 0) P
+    ∷ every isZero (drop (2 + 6 * getD dir 1 0) dir)
+    ∷ every (entrySound pool) (entriesOf dir)
+    ∷ noneShared (entriesOf dir)
+    ∷ []
+    in
+    let l : Lengths dir pool = lengths-are dir pool (true-at bs 0 t) in
+    let count : getD dir 1 0 ≤ P = leb-true (getD dir 1 0) P (true-at bs 2 t) in
     record {
-      dir-is = dir-of dir (omega arith) (eqb-true (getD dir 0 0) 1 (all-here b1 (b2 ∷ b3 ∷ b4 ∷ b5 ∷ []) t1)) (omega arith) (all-here b3 (b4 ∷ b5 ∷ []) t3);
-      some-cell = leb-true 1 P (all-here c2 (c3 ∷ c4 ∷ []) s1);
-      few-cells = leb-true P 1024 (all-here c3 (c4 ∷ []) s2);
-      pool-size = eqb-true (length pool) (32 * P) (all-here c1 (c2 ∷ c3 ∷ c4 ∷ []) s0);
-      dir-size = size;
-      few-entries = omega (arith, length-entries dir, few);
-      entries-sound = all-here b4 (b5 ∷ []) t4;
-      none-shared = all-here b5 [] (all-more b4 (b5 ∷ []) t4);
+      dir-is = dir-of dir (omega (arith, l .dir-size)) (eqb-true (getD dir 0 0) 1 (true-at bs 1 t)) (omega (arith, l .dir-size)) (true-at bs 3 t);
+      some-cell = l .some-cell;
+      few-cells = l .few-cells;
+      pool-size = l .pool-size;
+      dir-size = l .dir-size;
+      few-entries = omega (arith, length-entries dir, count);
+      entries-sound = true-at bs 4 t;
+      none-shared = true-at bs 5 t;
     }
 
 -- ---- cells

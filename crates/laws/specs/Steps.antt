@@ -1,33 +1,28 @@
 -- Sequences of calls.
-use mathlib.Core.Path.{_≡_, refl, sym, ap, _∙_, subst}
-use mathlib.Core.Bool.{Bool, true, false, not, cond}
+use mathlib.Core.Path.{_≡_}
+use mathlib.Core.Bool.{true}
 use mathlib.Core.List.{List, [], _∷_}
-use Prim.Native.Nat.{ℕ, zero, suc, _+_, _*_, _^_, _≤_, _<_}
+use Prim.Native.Nat.{ℕ, _^_, _≤_, _<_}
 use native.Mathlib.Omega.{arith}
-use lib.Dec.{eqb, leb}
 use lib.ListN.{length}
 use lib.IntN.{ℤ}
-use borrow.Author.Tests.{eqb-true, leb-true}
-use Rattle.rules.specs.declared.Entry.{Entry}
-use Rattle.rules.specs.declared.Outcome.the-variants.{NotSound}
-use Rattle.rules.specs.declared.Check.{Check}
-use Rattle.rules.specs.declared.Check.the-variants.{Passed, Refused}
+use Rattle.rules.specs.declared.Check.the-variants.{Passed}
 use Rattle.rules.specs.declared.Operation.{Operation}
 use Rattle.rules.specs.declared.Initial.{Initial}
-use Rattle.rules.specs.Layout.{cellsOf, encode, Memory, memoryOf}
+use Rattle.rules.specs.Layout.{cellsOf, Memory, memoryOf}
 use Rattle.rules.specs.Time.{expiryOf}
 use Rattle.rules.specs.LookUp.{lookUp}
 use Rattle.rules.specs.Soundness.{sound, audit, rightLengths}
 use Rattle.rules.specs.Checks.{refuse, checkLengths, checkSound, clockChecks, keyChecks, expireChecks, storeChecks, incrChecks}
-use Rattle.rules.specs.Calls.{Work, Result, call, itemOf, freshWork, freshCall, getWork, getCall, deleteWork, deleteCall, storeWork, storeCall, incrWork, incrCall, expireFound, expireCall, flushAllWork, flushAllCall, flushExpiredWork, flushExpiredCall}
+use Rattle.rules.specs.Calls.{Result, itemOf, freshWork, freshCall, getWork, getCall, deleteWork, deleteCall, storeWork, storeCall, incrWork, incrCall, expireFound, expireCall, flushAllWork, flushAllCall, flushExpiredWork, flushExpiredCall}
 use Rattle.laws.specs.CallsLaws.{call-passed}
+use Rattle.laws.specs.SoundnessLaws.{Lengths, lengths-are}
 use Rattle.laws.specs.Lists.{Each, nil, none-yet}
 use Rattle.laws.specs.SoundMemory.{SoundMemory, few}
 use Rattle.laws.specs.Finding.{Other, finds}
 use Rattle.laws.specs.Kept.{Kept, get-kept, delete-kept, store-kept, incr-kept, expire-kept, flush-all-kept, flush-expired-kept}
 use Rattle.laws.specs.Keys.{Audited, sound-kept, audited-kept}
 use Rattle.laws.specs.Carry.{Carries, carries-encode, carries-call, sound-carries, carries-sound, audit-carries, carries-audit, store-fine, incr-fine}
-use Rattle.laws.specs.Booleans.{true-at}
 
 -- ---- one call
 
@@ -124,24 +119,6 @@ audit-steps cs b t =
     (steps-kept P (Audited P) (λ key m. Each (Other (m .pool) key) (m .entries)) (audited-kept P) (λ m h. few (h .sound)) (empty-audited P) cs b (audit-carries (b .dir) (b .pool) t))
 
 -- ---- make fresh
-
-pub record Lengths (dir pool : List ℕ) : Type 0 where
-  pub some-cell : 1 ≤ cellsOf pool
-  pub few-cells : cellsOf pool ≤ 1024
-  pub pool-size : length pool ≡ 32 * cellsOf pool
-  pub dir-size : length dir ≡ 2 + 6 * cellsOf pool
-
-pub lengths-are : (dir pool : List ℕ) → rightLengths dir pool ≡ true → Lengths dir pool
-unfolding rightLengths
-lengths-are dir pool t =
-    let P : ℕ = cellsOf pool in
-    let bs : List Bool = eqb (length pool) (32 * P) ∷ leb 1 P ∷ leb P 1024 ∷ eqb (length dir) (2 + 6 * P) ∷ [] in
-    record {
-      some-cell = leb-true 1 P (true-at bs 1 t);
-      few-cells = leb-true P 1024 (true-at bs 2 t);
-      pool-size = eqb-true (length pool) (32 * P) (true-at bs 0 t);
-      dir-size = eqb-true (length dir) (2 + 6 * P) (true-at bs 3 t);
-    }
 
 fresh-passed : (dir pool : List ℕ) → rightLengths dir pool ≡ true → checkLengths dir pool ≡ Passed
 unfolding checkLengths refuse

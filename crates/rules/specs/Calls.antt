@@ -43,13 +43,17 @@ pub record Result : Type 0 where
   pub dir : List ℕ
   pub pool : List ℕ
 
+-- a call that gave this answer and left these words and bytes
+abbrev pub gave : Answer → List ℕ → List ℕ → Result
+gave answer dir pool = record { answer = answer; dir = dir; pool = pool }
+
 -- work that ran no rounds
 abbrev pub did : Outcome → ℕ → Memory → Work
 did o removed m = record { answer = plain o removed; memory = m }
 
 -- the memory after the work, in a directory of n words
 abbrev pub written : ℕ → Work → Result
-written n w = record { answer = w .answer; dir = encode n (w .memory .entries); pool = w .memory .pool }
+written n w = gave (w .answer) (encode n (w .memory .entries)) (w .memory .pool)
 
 -- words and bytes that hold a memory, in a directory of n words
 pub record Holds (n : ℕ) (m : Memory) (dir pool : List ℕ) : Type 0 where
@@ -63,7 +67,7 @@ pub record Does (w : Work) (n : ℕ) (answered : Answer) (dir pool : List ℕ) :
 
 -- a refusal by the checks 1 to 7 leaves the memory "unchanged", and its fields are 0
 unfoldable pub call : Check → (Memory → Work) → List ℕ → List ℕ → Result
-call (Refused o) work dir pool = record { answer = plain o 0; dir = dir; pool = pool }
+call (Refused o) work dir pool = gave (plain o 0) dir pool
 call Passed work dir pool = written (length dir) (work (memoryOf dir pool))
 
 -- a call that changes nothing
