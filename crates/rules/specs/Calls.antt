@@ -27,7 +27,7 @@ use Rattle.rules.specs.Time.{dead, expiryOf, timeLeft, withExpiry}
 use Rattle.rules.specs.LookUp.{lookUp}
 use Rattle.rules.specs.Recency.{line, sweepCount, sweep, gone}
 use Rattle.rules.specs.Place.{Placed, run}
-use Rattle.rules.specs.Answer.{plain}
+use Rattle.rules.specs.Answer.{plain, marked}
 use Rattle.rules.specs.Checks.{checkLengths, checkSound, clockChecks, keyChecks, expireChecks, storeChecks, incrChecks}
 
 -- ---- what a call gives
@@ -112,12 +112,9 @@ unfoldable pub getCall : List ℕ → List ℕ → ℕ → List ℕ → Result
 getCall dir pool clock key = call (keyChecks dir pool clock key) (getWork clock key) dir pool
 
 -- "live or dead, with a stale mark exactly if dead; else 8"
-abbrev pub reading : Outcome → Bool → Answer
-reading o stale = record { rounds = 0; removed = 0; forced = false; stale = stale; outcome = o }
-
 unfoldable pub staleFound : Memory → Found → Answer
-staleFound m (Live i) = reading (shown (m .pool) (entryIn m i)) false
-staleFound m (Dead i) = reading (shown (m .pool) (entryIn m i)) true
+staleFound m (Live i) = marked (shown (m .pool) (entryIn m i)) false
+staleFound m (Dead i) = marked (shown (m .pool) (entryIn m i)) true
 staleFound m Missing = plain NotFound 0
 
 unfoldable pub getStaleCall : List ℕ → List ℕ → ℕ → List ℕ → Answer
