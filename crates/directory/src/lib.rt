@@ -5,7 +5,6 @@ ghost use Prim.Native.Nat.{_+_, _*_, _≤_, _<_};
 ghost use lib.ListN.{length, take, getD};
 ghost use Rattle.rules.specs.Layout.{words, encode, entryAt, entriesOf, none, Dir, without, toFront, replaceAt, put};
 ghost use Rattle.rules.specs.Time.{withExpiry};
-
 use rules::Entry;
 
 // The entry whose words begin at p.
@@ -71,7 +70,7 @@ pub fn put_front(dir: &mut [u64], i: usize, e: Entry)
     ensures { λ _. ⌜ now (dir .exit) ≡ encode (length (now (dir .entry))) (toFront i e (entriesOf (now (dir .entry)))) ⌝ }
 {
     words::move_up(dir, 2, 6, 6 * i);
-    write(dir, 2, e);
+    write(dir, 2, e); // where the first one was
 }
 
 // Puts e in front of all entries. There is an unused record.

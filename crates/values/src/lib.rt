@@ -9,7 +9,6 @@ ghost use Rattle.rules.specs.Layout.{need, part, bytesOf, valueOf, numberBytes,
 ghost use Rattle.rules.specs.LookUp.{keyIs};
 ghost use Rattle.rules.specs.Calls.{booleanByte};
 ghost use Rattle.values.specs.Sum.{sumOf};
-
 use rules::Entry;
 
 const HALF: u64 = 9223372036854775808;

@@ -48,10 +48,10 @@ pub fn clear(d: &mut [u64], at: usize, count: usize)
     requires { ⌜ at + count ≤ length (now d) ⌝ }
     ensures { λ _. ⌜ now (d .exit) ≡ put (now (d .entry)) at (replicate count 0) ⌝ }
 {
-    let mut j = 0;
-    while j < count {
-        d[at + j] = 0;
-        j += 1;
+    let mut k = 0;
+    while k < count {
+        d[at + k] = 0;
+        k += 1;
     }
 }
 
