@@ -1,18 +1,17 @@
 -- The least limit over the marks of a line tells what the rounds of 01 come to.
 use mathlib.Core.Path.{_≡_, refl, sym, ap, _∙_, fun-ext}
 use mathlib.Core.List.{List, _++_}
-use Prim.Native.Nat.{ℕ, suc, _+_, _-_, _≤_, _<_}
+use Prim.Native.Nat.{ℕ, suc, _-_, _≤_, _<_}
 use native.Mathlib.Omega.{arith}
 use lib.ListN.{length, take, getD}
 use Rattle.rules.specs.declared.Entry.{Entry}
 use Rattle.rules.specs.declared.Fit.{Fit}
 use Rattle.rules.specs.declared.Fit.the-variants.{Start, Nowhere}
-use Rattle.rules.specs.Recency.{left, rounds, gone}
+use Rattle.rules.specs.Recency.{rounds, gone}
 use Rattle.rules.specs.Place.{firstFree, run}
 use Rattle.laws.specs.RecencyLaws.{rounds-few}
 use Rattle.laws.specs.LeastLossLaws.{gone-counted, left-counted}
-use Rattle.laws.specs.Cost.{mark, fitWithin, first-within, Look, limit-start, limit-nowhere}
-use Rattle.eviction.specs.declared.Choice.{Choice}
+use Rattle.laws.specs.Cost.{fitWithin, first-within, Look, limit-start, limit-nowhere}
 use Rattle.eviction.specs.Choice.{Chosen}
 use Rattle.eviction.specs.Fitting.{fitUnder}
 use Rattle.eviction.specs.Least.{LeastLimit, least-none}

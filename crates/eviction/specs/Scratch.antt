@@ -1,13 +1,13 @@
 -- The scratch array for the marks: its first cells are lent out blank, and stand at the front again when they come back.
-use mathlib.Core.Path.{_≡_, refl, sym, ap, _∙_}
+use mathlib.Core.Path.{_≡_, refl, sym, _∙_}
 use mathlib.Core.List.{List, _++_}
-use Prim.Native.Nat.{ℕ, zero, suc, _+_, _≤_, _<_}
+use Prim.Native.Nat.{ℕ, zero, suc, _≤_}
 use native.Mathlib.Omega.{arith}
 use lib.ListN.{length, take, getD, replicate, length-replicate, length-append}
 use lib.Seq.{length-take-le, take-at}
 use Rattle.rules.specs.Layout.{cellsOf, memoryOf}
 use Rattle.laws.specs.SoundnessLaws.{Sound}
-use Rattle.laws.specs.SoundMemory.{SoundMemory, Fine, memory-of}
+use Rattle.laws.specs.SoundMemory.{memory-of}
 use Rattle.laws.specs.Lists.{each-map}
 use Rattle.eviction.specs.Marking.{Blank}
 

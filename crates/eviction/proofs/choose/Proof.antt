@@ -1,9 +1,7 @@
 -- `eviction::choose` meets its contract.
-use mathlib.Core.Path.{_≡_, refl, sym, ap, _∙_}
-use mathlib.Core.List.{List, [], _∷_, _++_}
-use Prim.Native.Nat.{ℕ, zero, suc, _+_, _-_, _*_, _≤_, _<_}
+use mathlib.Core.Path.{sym}
 use native.Mathlib.Omega.{arith}
-use lib.ListN.{length, take, drop, getD, set, length-set}
+use lib.ListN.{drop}
 use Rattle.rules.specs.Layout.{cellsOf, memoryOf}
 use Rattle.laws.specs.SoundnessLaws.{sound-is}
 use Rattle.eviction.specs.Scratch.{zeros, zeros-length, zeros-blank, back-room, back-length}
@@ -11,11 +9,6 @@ use Rattle.eviction.specs.ChoiceLaws.{chosen-scratch}
 use borrow.Author.Needs.{needs}
 use Rattle.eviction.proofs.choose.Statement.{statement}
 use Rattle.eviction.proofs.choose.Tie as tie
-use Rattle.eviction.proofs.choose.Reads as reads
-use Rattle.eviction.proofs.choose.Lts as lts
-use Rattle.eviction.proofs.least_limit.Reads as least-limit-reads
-use Rattle.eviction.proofs.mark_line.Reads as mark-line-reads
-use Rattle.eviction.proofs.rounds_of.Reads as rounds-of-reads
 
 array-borrow-prefix-marks : tie.Need-array-borrow-prefix-marks
 array-borrow-prefix-marks c = omega (arith, sound-is _ _ (c .before .before .pre .0) .few-cells)

@@ -1,15 +1,10 @@
 -- `eviction::first_fit` meets its contract.
-use mathlib.Core.Path.{_≡_, refl, sym, ap, _∙_}
-use mathlib.Core.List.{List, [], _∷_, _++_}
-use Prim.Native.Nat.{ℕ, zero, suc, _+_, _-_, _*_, _≤_, _<_}
+use Prim.Native.Nat.{_-_}
 use native.Mathlib.Omega.{arith}
-use lib.ListN.{length, take, drop, getD, set, length-set}
+use lib.ListN.{length}
 use Rattle.eviction.specs.Fitting.{Running, running-none, running-more, Looking, looking-none, looking-more, looking-found, looking-end}
-use borrow.Author.Needs.{needs}
 use Rattle.eviction.proofs.first_fit.Statement.{statement}
 use Rattle.eviction.proofs.first_fit.Tie as tie
-use Rattle.eviction.proofs.first_fit.Reads as reads
-use Rattle.eviction.proofs.first_fit.Lts as lts
 
 abbrev Inv-loop : tie.InvT-loop
 Inv-loop marks limit need start run₀ run = Running marks limit need start run

@@ -1,15 +1,7 @@
 -- `eviction::is_dead` meets its contract.
-use mathlib.Core.Path.{_≡_, refl, sym, ap, _∙_}
-use mathlib.Core.List.{List, [], _∷_, _++_}
-use Prim.Native.Nat.{ℕ, zero, suc, _+_, _-_, _*_, _≤_, _<_}
-use native.Mathlib.Omega.{arith}
-use lib.ListN.{length, take, drop, getD, set, length-set}
 use Rattle.laws.specs.TimeLaws.{never-dead, dead-by}
-use borrow.Author.Needs.{needs}
 use Rattle.eviction.proofs.is_dead.Statement.{statement}
 use Rattle.eviction.proofs.is_dead.Tie as tie
-use Rattle.eviction.proofs.is_dead.Reads as reads
-use Rattle.eviction.proofs.is_dead.Lts as lts
 
 returns : tie.Need-returns
 returns c = never-dead _ _ (c .if1 .taken)

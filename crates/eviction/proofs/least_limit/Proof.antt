@@ -1,16 +1,11 @@
 -- `eviction::least_limit` meets its contract.
-use mathlib.Core.Path.{_≡_, refl, sym, ap, _∙_}
-use mathlib.Core.List.{List, [], _∷_, _++_}
-use Prim.Native.Nat.{ℕ, zero, suc, _+_, _-_, _*_, _≤_, _<_}
+use mathlib.Core.Path.{sym, _∙_}
+use Prim.Native.Nat.{_-_}
 use native.Mathlib.Omega.{arith}
-use lib.ListN.{length, take, drop, getD, set, length-set}
 use Rattle.eviction.specs.Least.{Counting, counting-none, counting-more, least-start, least-nowhere}
 use borrow.Author.Needs.{needs}
 use Rattle.eviction.proofs.least_limit.Statement.{statement}
 use Rattle.eviction.proofs.least_limit.Tie as tie
-use Rattle.eviction.proofs.least_limit.Reads as reads
-use Rattle.eviction.proofs.least_limit.Lts as lts
-use Rattle.eviction.proofs.first_fit.Reads as first-fit-reads
 
 abbrev Inv-loop : tie.InvT-loop
 Inv-loop marks need most limit₀ limit = Counting marks need most limit

@@ -1,18 +1,11 @@
 -- `eviction::mark_entry` meets its contract.
-use mathlib.Core.Path.{_≡_, refl, sym, ap, _∙_}
-use mathlib.Core.List.{List, [], _∷_, _++_}
-use Prim.Native.Nat.{ℕ, zero, suc, _+_, _-_, _*_, _≤_, _<_}
+use mathlib.Core.Path.{_∙_}
 use native.Mathlib.Omega.{arith}
-use lib.ListN.{length, take, drop, getD, set, length-set}
-use Rattle.rules.specs.Layout.{need}
-use Rattle.eviction.specs.Cells.{written-first, written-then}
-use Rattle.eviction.specs.Cells.{written-one, written-first, written-then}
+use lib.ListN.{length-set}
+use Rattle.eviction.specs.Cells.{written-first, written-then, written-one}
 use borrow.Author.Needs.{needs}
 use Rattle.eviction.proofs.mark_entry.Statement.{statement}
 use Rattle.eviction.proofs.mark_entry.Tie as tie
-use Rattle.eviction.proofs.mark_entry.Reads as reads
-use Rattle.eviction.proofs.mark_entry.Lts as lts
-use Rattle.eviction.proofs.mark_from.Reads as mark-from-reads
 
 slice-write-marks : tie.Need-slice-write-marks
 slice-write-marks c = search needs

@@ -1,15 +1,10 @@
 -- `eviction::mark_from` meets its contract.
-use mathlib.Core.Path.{_≡_, refl, sym, ap, _∙_}
-use mathlib.Core.List.{List, [], _∷_, _++_}
-use Prim.Native.Nat.{ℕ, zero, suc, _+_, _-_, _*_, _≤_, _<_}
+use mathlib.Core.Path.{_≡_}
+use Prim.Native.Nat.{_-_, _≤_}
 use native.Mathlib.Omega.{arith}
-use lib.ListN.{length, take, drop, getD, set, length-set}
 use Rattle.eviction.specs.Cells.{Written, written-none, written-more}
-use borrow.Author.Needs.{needs}
 use Rattle.eviction.proofs.mark_from.Statement.{statement}
 use Rattle.eviction.proofs.mark_from.Tie as tie
-use Rattle.eviction.proofs.mark_from.Reads as reads
-use Rattle.eviction.proofs.mark_from.Lts as lts
 
 abbrev Inv-loop : tie.InvT-loop
 Inv-loop marks₀ start end mark c₀ marks c = (start ≤ c) × (c ≤ end) × Written marks₀ marks start c mark

@@ -1,19 +1,10 @@
 -- `eviction::mark_line` meets its contract.
-use mathlib.Core.Path.{_≡_, refl, sym, ap, _∙_}
-use mathlib.Core.List.{List, [], _∷_, _++_}
-use Prim.Native.Nat.{ℕ, zero, suc, _+_, _-_, _*_, _≤_, _<_}
+use mathlib.Core.Path.{refl}
 use native.Mathlib.Omega.{arith}
-use lib.ListN.{length, take, drop, getD, set, length-set}
+use lib.ListN.{length}
 use Rattle.eviction.specs.Marking.{Marking, marking-none, marking-words, marking-cells, marking-more, marking-done}
-use borrow.Author.Needs.{needs}
 use Rattle.eviction.proofs.mark_line.Statement.{statement}
 use Rattle.eviction.proofs.mark_line.Tie as tie
-use Rattle.eviction.proofs.mark_line.Reads as reads
-use Rattle.eviction.proofs.mark_line.Lts as lts
-use Rattle.eviction.proofs.directory.read.Reads as read-reads
-use Rattle.eviction.proofs.is_dead.Reads as is-dead-reads
-use Rattle.eviction.proofs.mark_entry.Reads as mark-entry-reads
-use Rattle.eviction.proofs.next_turn.Reads as next-turn-reads
 
 abbrev Inv-loop : tie.InvT-loop
 Inv-loop marks₀ dir clock turn₀ p₀ marks turn p = Marking clock (length marks₀) dir p turn marks

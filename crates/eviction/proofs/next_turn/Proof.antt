@@ -1,17 +1,9 @@
 -- `eviction::next_turn` meets its contract.
-use mathlib.Core.Path.{_≡_, refl, sym, ap, _∙_}
-use mathlib.Core.List.{List, [], _∷_, _++_}
-use Prim.Native.Nat.{ℕ, zero, suc, _+_, _-_, _*_, _≤_, _<_}
-use native.Mathlib.Omega.{arith}
-use lib.ListN.{length, take, drop, getD, set, length-set}
 use Rattle.eviction.specs.Turns.{turn-joins, turn-full, turn-live}
 use mathlib.Core.Logic.{⊎-elim}
 use borrow.Author.Needs.{needs}
 use Rattle.eviction.proofs.next_turn.Statement.{statement}
 use Rattle.eviction.proofs.next_turn.Tie as tie
-use Rattle.eviction.proofs.next_turn.Reads as reads
-use Rattle.eviction.proofs.next_turn.Lts as lts
-use Rattle.eviction.proofs.next_round.Reads as next-round-reads
 
 sub-t5 : tie.Need-sub-t5
 sub-t5 c = search needs

@@ -1,21 +1,10 @@
 -- `eviction::rounds_of` meets its contract.
-use mathlib.Core.Path.{_≡_, refl, sym, ap, _∙_}
-use mathlib.Core.List.{List, [], _∷_, _++_}
-use Prim.Native.Nat.{ℕ, zero, suc, _+_, _-_, _*_, _≤_, _<_}
 use native.Mathlib.Omega.{arith}
-use lib.ListN.{length, take, drop, getD, set, length-set}
 use mathlib.Core.Logic.{⊎-elim}
 use Rattle.rules.specs.Layout.{entriesOf}
 use Rattle.eviction.specs.Leaving.{Leaving, leaving-none, leaving-more, leaves-stop, leaves-end}
-use borrow.Author.Needs.{needs}
 use Rattle.eviction.proofs.rounds_of.Statement.{statement}
 use Rattle.eviction.proofs.rounds_of.Tie as tie
-use Rattle.eviction.proofs.rounds_of.Reads as reads
-use Rattle.eviction.proofs.rounds_of.Lts as lts
-use Rattle.eviction.proofs.directory.count.Reads as count-reads
-use Rattle.eviction.proofs.directory.record_at.Reads as record-at-reads
-use Rattle.eviction.proofs.is_dead.Reads as is-dead-reads
-use Rattle.eviction.proofs.next_turn.Reads as next-turn-reads
 
 abbrev Inv-loop : tie.InvT-loop
 Inv-loop dir clock limit n turn₀ left₀ turn left = Leaving clock limit (entriesOf dir) left turn

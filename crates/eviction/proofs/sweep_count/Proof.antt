@@ -1,19 +1,10 @@
 -- `eviction::sweep_count` meets its contract.
-use mathlib.Core.Path.{_≡_, refl, sym, ap, _∙_}
-use mathlib.Core.List.{List, [], _∷_, _++_}
-use Prim.Native.Nat.{ℕ, zero, suc, _+_, _-_, _*_, _≤_, _<_}
 use native.Mathlib.Omega.{arith}
-use lib.ListN.{length, take, drop, getD, set, length-set}
 use Rattle.laws.specs.SoundnessLaws.{sound-is}
 use Rattle.eviction.specs.Sweeping.{sweep-empty, sweep-live, sweep-one, sweep-second, sweep-both}
 use borrow.Author.Needs.{needs}
 use Rattle.eviction.proofs.sweep_count.Statement.{statement}
 use Rattle.eviction.proofs.sweep_count.Tie as tie
-use Rattle.eviction.proofs.sweep_count.Reads as reads
-use Rattle.eviction.proofs.sweep_count.Lts as lts
-use Rattle.eviction.proofs.directory.count.Reads as count-reads
-use Rattle.eviction.proofs.directory.record_at.Reads as record-at-reads
-use Rattle.eviction.proofs.is_dead.Reads as is-dead-reads
 
 count-requires : tie.Need-count-requires
 count-requires c κs = sound-is _ _ (c .before .before .pre) .dir-is
