@@ -1,4 +1,4 @@
--- The line in a directory's words: its first i entries, counted from the most recently used, are its last i records.
+-- The line of the first i entries of a directory: what is left for a loop that walks its records from the last one on.
 use mathlib.Core.Path.{_≡_, refl, sym, ap, _∙_}
 use mathlib.Core.List.{List, [], _∷_, reverse}
 use Prim.Native.Nat.{ℕ, zero, suc, _+_, _-_, _*_, _≤_, _<_}

@@ -38,7 +38,7 @@ pub fn sweep_count(dir: &[u64], pool: &[u8], clock: u64) -> usize
         return 0;
     }
     if !is_dead(directory::record_at(dir, n - 1), clock) {
-        return 0;
+        return 0; // the first in line is live
     }
     if n < 2 {
         return 1;
@@ -46,7 +46,7 @@ pub fn sweep_count(dir: &[u64], pool: &[u8], clock: u64) -> usize
     if !is_dead(directory::record_at(dir, n - 2), clock) {
         return 1;
     }
-    2
+    2 // both are dead
 }
 
 // The lowest start from which `need` cells are all marked within the limit. A cell above the limit is stepped past, so that no cell is looked at twice.

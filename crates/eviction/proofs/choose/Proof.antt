@@ -2,11 +2,11 @@
 use mathlib.Core.Path.{sym}
 use native.Mathlib.Omega.{arith}
 use lib.ListN.{drop}
+use borrow.Author.Needs.{needs}
 use Rattle.rules.specs.Layout.{cellsOf, memoryOf}
 use Rattle.laws.specs.SoundnessLaws.{sound-is}
 use Rattle.eviction.specs.Scratch.{zeros, zeros-length, zeros-blank, back-room, back-length}
 use Rattle.eviction.specs.ChoiceLaws.{chosen-scratch}
-use borrow.Author.Needs.{needs}
 use Rattle.eviction.proofs.choose.Statement.{statement}
 use Rattle.eviction.proofs.choose.Tie as tie
 

@@ -1,4 +1,4 @@
--- `eviction::first_fit` meets its contract.
+-- `eviction::first_fit` meets its contract. The outer loop has passed no start that has room; in the inner one the run from this start is within the limit.
 use Prim.Native.Nat.{_-_}
 use native.Mathlib.Omega.{arith}
 use lib.ListN.{length}

@@ -1,9 +1,9 @@
--- `eviction::least_limit` meets its contract.
+-- `eviction::least_limit` meets its contract. The loop has found no fit under a lower limit.
 use mathlib.Core.Path.{sym, _∙_}
 use Prim.Native.Nat.{_-_}
 use native.Mathlib.Omega.{arith}
-use Rattle.eviction.specs.Least.{Counting, counting-none, counting-more, least-start, least-nowhere}
 use borrow.Author.Needs.{needs}
+use Rattle.eviction.specs.Least.{Counting, counting-none, counting-more, least-start, least-nowhere}
 use Rattle.eviction.proofs.least_limit.Statement.{statement}
 use Rattle.eviction.proofs.least_limit.Tie as tie
 

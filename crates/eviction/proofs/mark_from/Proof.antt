@@ -1,4 +1,4 @@
--- `eviction::mark_from` meets its contract.
+-- `eviction::mark_from` meets its contract. The loop has written the mark into the cells up to c.
 use mathlib.Core.Path.{_≡_}
 use Prim.Native.Nat.{_-_, _≤_}
 use native.Mathlib.Omega.{arith}

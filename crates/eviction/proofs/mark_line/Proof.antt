@@ -1,4 +1,4 @@
--- `eviction::mark_line` meets its contract.
+-- `eviction::mark_line` meets its contract. What the records before word p still write over the marks makes them those of the whole line.
 use mathlib.Core.Path.{refl}
 use native.Mathlib.Omega.{arith}
 use lib.ListN.{length}

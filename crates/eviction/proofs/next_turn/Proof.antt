@@ -1,7 +1,7 @@
 -- `eviction::next_turn` meets its contract.
-use Rattle.eviction.specs.Turns.{turn-joins, turn-full, turn-live}
 use mathlib.Core.Logic.{⊎-elim}
 use borrow.Author.Needs.{needs}
+use Rattle.eviction.specs.Turns.{turn-joins, turn-full, turn-live}
 use Rattle.eviction.proofs.next_turn.Statement.{statement}
 use Rattle.eviction.proofs.next_turn.Tie as tie
 

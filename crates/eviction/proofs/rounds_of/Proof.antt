@@ -1,6 +1,6 @@
--- `eviction::rounds_of` meets its contract.
-use native.Mathlib.Omega.{arith}
+-- `eviction::rounds_of` meets its contract. What the entries left still add to the rounds begun and the entries gone makes the rounds of the whole line.
 use mathlib.Core.Logic.{⊎-elim}
+use native.Mathlib.Omega.{arith}
 use Rattle.rules.specs.Layout.{entriesOf}
 use Rattle.eviction.specs.Leaving.{Leaving, leaving-none, leaving-more, leaves-stop, leaves-end}
 use Rattle.eviction.proofs.rounds_of.Statement.{statement}

@@ -1,8 +1,8 @@
 -- `eviction::sweep_count` meets its contract.
 use native.Mathlib.Omega.{arith}
+use borrow.Author.Needs.{needs}
 use Rattle.laws.specs.SoundnessLaws.{sound-is}
 use Rattle.eviction.specs.Sweeping.{sweep-empty, sweep-live, sweep-one, sweep-second, sweep-both}
-use borrow.Author.Needs.{needs}
 use Rattle.eviction.proofs.sweep_count.Statement.{statement}
 use Rattle.eviction.proofs.sweep_count.Tie as tie
 
