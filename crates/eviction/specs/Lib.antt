@@ -1,1 +1,12 @@
 pub mod Choice
+pub mod ChoiceLaws
+pub mod Cells
+pub mod Fitting
+pub mod Least
+pub mod Leaving
+pub mod Lines
+pub mod Marking
+pub mod Scratch
+pub mod Sweeping
+pub mod Turns
+pub mod Swept

@@ -2,26 +2,20 @@
 ghost use mathlib.Core.Path.{_≡_};
 ghost use mathlib.Core.Bool.{true};
 ghost use mathlib.Core.List.{reverse};
-ghost use Prim.Native.Nat.{ℕ, suc, _+_, _-_, _*_, _≤_, _<_};
+ghost use Prim.Native.Nat.{ℕ, suc, _+_, _-_, _≤_, _<_, min};
 ghost use lib.ListN.{length, getD};
-ghost use Rattle.rules.specs.Layout.{cellsOf, entriesOf, Dir, memoryOf};
-ghost use Rattle.rules.specs.Time.{dead};
+ghost use Rattle.rules.specs.Layout.{cellsOf, need, entriesOf, Dir, memoryOf};
 ghost use Rattle.rules.specs.Recency.{line, sweepCount};
+ghost use Rattle.eviction.specs.Swept.{Swept};
 ghost use Rattle.rules.specs.Soundness.{sound};
 ghost use Rattle.laws.specs.Cost.{fitWithin};
 ghost use Rattle.eviction.specs.Choice.{Chosen};
-use rules::Entry;
+ghost use Rattle.eviction.specs.Turns.{nextTurn};
+ghost use Rattle.eviction.specs.Cells.{Written};
+ghost use Rattle.eviction.specs.Marking.{Blank, Marked};
+ghost use Rattle.eviction.specs.Least.{LeastLimit};
+ghost use Rattle.eviction.specs.Leaving.{Leaves};
 use rules::Fit;
-
-// The entry is dead by the clock.
-pub fn is_dead(e: Entry, clock: u64) -> bool
-    ensures { λ r. ⌜ r ≡ dead clock e ⌝ }
-{
-    if e.expiry == 0 {
-        return false;
-    }
-    e.expiry <= clock
-}
 
 // How many entries the sweep removes.
 pub fn sweep_count(dir: &[u64], pool: &[u8], clock: u64) -> usize
@@ -32,16 +26,26 @@ pub fn sweep_count(dir: &[u64], pool: &[u8], clock: u64) -> usize
     if n < 1 {
         return 0;
     }
-    if !is_dead(directory::record_at(dir, n - 1), clock) {
-        return 0;
+    if !time::is_dead(directory::record_at(dir, n - 1), clock) {
+        return 0; // the first in line is live
     }
     if n < 2 {
         return 1;
     }
-    if !is_dead(directory::record_at(dir, n - 2), clock) {
+    if !time::is_dead(directory::record_at(dir, n - 2), clock) {
         return 1;
     }
-    2
+    2 // both are dead
+}
+
+// The sweep: up to two dead entries leave at the long-unused end, and it stops at the first live one. Answers how many left.
+pub fn sweep(dir: &mut [u64], pool: &mut [u8], clock: u64) -> usize
+    requires { ⌜ sound (now dir) (now pool) ≡ true ⌝ }
+    ensures { λ r. ⌜ Swept clock (now (dir .entry)) (now (pool .entry)) r (now (dir .exit)) (now (pool .exit)) ⌝ }
+{
+    let n = sweep_count(dir, pool, clock);
+    memory::remove_oldest(dir, pool, n);
+    n
 }
 
 // The lowest start from which `need` cells are all marked within the limit. A cell above the limit is stepped past, so that no cell is looked at twice.
@@ -65,6 +69,146 @@ pub fn first_fit(marks: &[u8], limit: u8, need: usize) -> Fit
             run += 1;
         }
         start += run + 1;
+    }
+}
+
+// The rounds begun, 31 for any more, and how many dead entries the last of them still takes.
+struct Turn {
+    round: u8,
+    more: u8,
+}
+
+// One round more, 31 at the most.
+fn next_round(round: u8) -> u8
+    ensures { λ r. ⌜ r ≡ min (round + 1) 31 ⌝ }
+{
+    if round < 31 {
+        return round + 1;
+    }
+    31
+}
+
+// The turn of the next entry in the line: a dead one may go with the round, any other begins one.
+fn next_turn(turn: Turn, dead: bool) -> Turn
+    ensures { λ r. ⌜ r ≡ nextTurn dead turn ⌝ }
+{
+    if dead {
+        if 0 < turn.more {
+            return Turn {
+                round: turn.round,
+                more: turn.more - 1,
+            };
+        }
+    }
+    Turn {
+        round: next_round(turn.round),
+        more: 2,
+    }
+}
+
+// Writes the mark into the cells from `start` up to `end`.
+fn mark_from(marks: &mut [u8], start: usize, end: usize, mark: u8)
+    requires { ⌜ (start ≤ end) × (end ≤ length (now marks)) ⌝ }
+    ensures { λ _. ⌜ Written (now (marks .entry)) (now (marks .exit)) start end mark ⌝ }
+{
+    let mut c = start;
+    while c < end {
+        marks[c] = mark;
+        c += 1;
+    }
+}
+
+// Writes the mark into the cells of an entry of `size` bytes. Most entries have one.
+fn mark_entry(marks: &mut [u8], start: usize, size: usize, mark: u8)
+    requires { ⌜ (0 < size) × (length (now marks) ≤ 1024) × (start + need size ≤ length (now marks)) ⌝ }
+    ensures { λ _. ⌜ Written (now (marks .entry)) (now (marks .exit)) start (start + need size) mark ⌝ }
+{
+    marks[start] = mark;
+    if size <= 32 {
+        return;
+    }
+    mark_from(marks, start + 1, start + (size + 31) / 32, mark);
+}
+
+// Marks each cell with the round in which its entry leaves, 31 for any later one. One pass, from the longest unused entry on.
+fn mark_line(marks: &mut [u8], dir: &[u64], clock: u64)
+    requires { ⌜ Blank (now marks) (now dir) ⌝ }
+    ensures { λ _. ⌜ Marked clock (length (now (marks .entry))) (reverse (entriesOf (now (dir .entry)))) (now (marks .exit)) ⌝ }
+{
+    let mut turn = Turn { round: 0, more: 0 };
+    let mut p = 2 + 6 * dir[1] as usize;
+    while 2 < p {
+        p -= 6;
+        let e = directory::read(dir, p);
+        turn = next_turn(turn, time::is_dead(e, clock));
+        mark_entry(
+            marks,
+            e.start as usize,
+            (e.klen + e.vlen) as usize,
+            turn.round,
+        );
+    }
+}
+
+// A place, and the limit at which it was found.
+struct Least {
+    fit: Fit,
+    limit: usize,
+}
+
+// The first of the limits 0 to `most` at which there is a first fit.
+fn least_limit(marks: &[u8], need: usize, most: usize) -> Least
+    requires { ⌜ (0 < need) × (most ≤ 30) ⌝ }
+    ensures { λ r. ⌜ LeastLimit (now (marks .entry)) need most (r .fit) (r .limit) ⌝ }
+{
+    let mut limit: usize = 0;
+    loop {
+        let fit = first_fit(marks, limit as u8, need);
+        if let Fit::Start(start) = fit {
+            return Least {
+                fit: Fit::Start(start),
+                limit,
+            };
+        }
+        if most <= limit {
+            return Least {
+                fit: Fit::Nowhere,
+                limit: most,
+            };
+        }
+        limit += 1;
+    }
+}
+
+// How many rounds there are, and how many entries they take.
+struct Rounds {
+    ran: usize,
+    gone: usize,
+}
+
+// The first `limit` rounds, or all of them if there are fewer. Only the entries that go are walked.
+fn rounds_of(dir: &[u64], clock: u64, limit: usize) -> Rounds
+    requires { ⌜ Dir (now dir) ⌝ }
+    requires { ⌜ limit ≤ 30 ⌝ }
+    ensures { λ r. ⌜ Leaves clock limit (reverse (entriesOf (now (dir .entry)))) (r .ran) (r .gone) ⌝ }
+{
+    let n = directory::count(dir);
+    let mut turn = Turn { round: 0, more: 0 };
+    let mut left = n;
+    while 0 < left {
+        let next = next_turn(
+            turn,
+            time::is_dead(directory::record_at(dir, left - 1), clock),
+        );
+        if limit < next.round as usize {
+            break;
+        }
+        turn = next;
+        left -= 1;
+    }
+    Rounds {
+        ran: turn.round as usize,
+        gone: n - left,
     }
 }
 

@@ -31,7 +31,7 @@ fitWithin marks k n (suc j) s = cond (within marks k n s) (Start s) (fitWithin m
 
 -- ---- a free cell stays free
 
-held-drop : (k : ℕ) (es : List Entry) (c : ℕ) → held es c ≡ false → held (drop k es) c ≡ false
+pub held-drop : (k : ℕ) (es : List Entry) (c : ℕ) → held es c ≡ false → held (drop k es) c ≡ false
 unfolding held
 held-drop zero es c h = h
 held-drop (suc k) [] c h = h

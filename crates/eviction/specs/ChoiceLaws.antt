@@ -1,0 +1,60 @@
+-- The least limit over the marks of a line tells what the rounds of 01 come to.
+use mathlib.Core.Path.{_≡_, refl, sym, ap, _∙_, fun-ext}
+use mathlib.Core.List.{List, _++_}
+use Prim.Native.Nat.{ℕ, suc, _-_, _≤_, _<_}
+use native.Mathlib.Omega.{arith}
+use lib.ListN.{length, take, getD}
+use Rattle.rules.specs.declared.Entry.{Entry}
+use Rattle.rules.specs.declared.Fit.{Fit}
+use Rattle.rules.specs.declared.Fit.the-variants.{Start, Nowhere}
+use Rattle.rules.specs.Recency.{rounds, gone}
+use Rattle.rules.specs.Place.{firstFree, run}
+use Rattle.laws.specs.RecencyLaws.{rounds-few}
+use Rattle.laws.specs.LeastLossLaws.{gone-counted, left-counted}
+use Rattle.laws.specs.Cost.{fitWithin, first-within, Look, limit-start, limit-nowhere}
+use Rattle.eviction.specs.Choice.{Chosen}
+use Rattle.eviction.specs.Fitting.{fitUnder}
+use Rattle.eviction.specs.Least.{LeastLimit, least-none}
+use Rattle.eviction.specs.Leaving.{Leaves}
+use Rattle.eviction.specs.Marking.{Marked}
+use Rattle.eviction.specs.Scratch.{zeros, zeros-length, back-front}
+
+-- a fit over the marks is a look behind so many rounds
+pub fit-look : {clock P : ℕ} {es : List Entry} {marks : List ℕ} (n k : ℕ) → Marked clock P es marks → k ≤ 30 → fitUnder marks k n ≡ Look clock P n es k
+fit-look {clock} {P} {es} {marks} n k m l =
+    ap (λ (p : ℕ). fitWithin (λ (c : ℕ). getD marks c 0) k n (suc p - n) 0) (m .size)
+    ∙ ap (λ (f : ℕ → ℕ). fitWithin f k n (suc P - n) 0) (fun-ext (m .marked))
+    ∙ first-within clock 30 k es l P n
+
+-- the least number of rounds that opens a place is a number of rounds that run
+pub all-ran : (clock P n : ℕ) (es : List Entry) (s k : ℕ) → Look clock P n es k ≡ Start s → ((j : ℕ) → j < k → Look clock P n es j ≡ Nowhere) → length (rounds clock k es) ≡ k
+all-ran clock P n es s k e none =
+    let same : Look clock P n es (length (rounds clock k es)) ≡ Start s = ap (firstFree P n) (left-counted clock k es) ∙ e in
+    let w : ¬ (length (rounds clock k es) < k) = λ l. let no : Look clock P n es (length (rounds clock k es)) ≡ Nowhere = none (length (rounds clock k es)) l in let z : _≡_ {A = ℕ} 0 1 = cc in omega arith in
+    omega (arith, rounds-few clock k es)
+
+pub chosen : {clock P n most limit ran went : ℕ} {es : List Entry} {marks : List ℕ} (f : Fit) → Marked clock P es marks → most ≤ 30 → LeastLimit marks n most f limit → Leaves clock limit es ran went → Chosen clock P n most es (record { fit = f; ran = ran; gone = went })
+chosen {clock} {P} {n} {most} {limit} {ran} {went} {es} {marks} (Start s) m b l v =
+    let here : Look clock P n es limit ≡ Start s = sym (l .here ∙ fit-look n limit m (omega (arith, l .few))) in
+    let none : (j : ℕ) → j < limit → Look clock P n es j ≡ Nowhere = λ j h. sym (fit-look n j m (omega (arith, l .few))) ∙ l .none-before j h in
+    let r : (run clock P n most es .fit ≡ Start s) × (run clock P n most es .ran ≡ limit) = limit-start clock P n es most s limit (l .few) here none in
+    record {
+      fit = sym (r .0);
+      ran = v .ran ∙ all-ran clock P n es s limit here none ∙ sym (r .1);
+      gone = v .went ∙ ap (λ (k : ℕ). length (gone clock k es)) (sym (r .1));
+    }
+chosen {clock} {P} {n} {most} {limit} {ran} {went} {es} {marks} Nowhere m b l v =
+    let e : limit ≡ most = l .last refl in
+    let none : (j : ℕ) → j ≤ most → Look clock P n es j ≡ Nowhere = λ j h. sym (fit-look n j m (omega arith)) ∙ least-none l j h in
+    let r : (run clock P n most es .fit ≡ Nowhere) × (run clock P n most es .ran ≡ length (rounds clock most es)) = limit-nowhere clock P n es most none in
+    record {
+      fit = sym (r .0);
+      ran = v .ran ∙ ap (λ (k : ℕ). length (rounds clock k es)) e ∙ sym (r .1);
+      gone = v .went ∙ ap (λ (k : ℕ). length (gone clock k es)) e ∙ sym (ap (λ (k : ℕ). length (gone clock k es)) (r .1) ∙ ap length (gone-counted clock most es));
+    }
+
+-- the same, of marks made in a scratch array of n cells
+pub chosen-scratch : {clock need most limit ran went : ℕ} {es : List Entry} {last : List ℕ} (n P : ℕ) (rest : List ℕ) (f : Fit) → P ≤ n → Marked clock (length (take P (zeros n))) es last → most ≤ 30 → LeastLimit (take P (last ++ rest)) need most f limit → Leaves clock limit es ran went → Chosen clock P need most es (record { fit = f; ran = ran; gone = went })
+chosen-scratch {clock} {es = es} {last} n P rest f h m b l v =
+    let q : Marked clock P es last = rw (zeros-length n P h) at m in
+    chosen f q b (rw (back-front last rest n P h (m .size)) at l) v
