@@ -6,7 +6,7 @@ use Prim.Native.Nat.{ℕ, zero, suc, _≤_, _<_}
 use native.Mathlib.Omega.{arith}
 use lib.Dec.{eqb, ltb}
 use lib.ListN.{length}
-use borrow.Author.Tests.{eq-eqb, ne-eqb, lt-ltb, le-ltb}
+use borrow.Author.Tests.{not-false, eq-eqb, ne-eqb, lt-ltb, le-ltb}
 use Rattle.rules.specs.declared.Check.{Check}
 use Rattle.rules.specs.declared.Check.the-variants.{Passed, Refused}
 use Rattle.rules.specs.declared.Outcome.{Outcome}
@@ -15,7 +15,7 @@ use Rattle.rules.specs.declared.Operation.{Operation}
 use Rattle.rules.specs.declared.Operation.the-variants.{Set, SafeSet, Add, SafeAdd, Replace}
 use Rattle.rules.specs.Time.{tooLate}
 use Rattle.rules.specs.Soundness.{any, sound}
-use Rattle.rules.specs.Checks.{_then_, refuse, checkSound, checkClock, checkKey, checkKind, takesNil, checkNil, checkLifetime}
+use Rattle.rules.specs.Checks.{passed, _then_, refuse, checkSound, checkClock, checkKey, checkKind, takesNil, checkNil, checkLifetime, clockChecks, keyChecks, expireChecks}
 
 -- ---- checks in order
 
@@ -26,6 +26,11 @@ refuse-yes o b e = sym (ap (refuse o) e)
 pub refuse-no : (o : Outcome) (b : Bool) → b ≡ false → Passed ≡ refuse o b
 unfolding refuse
 refuse-no o b e = sym (ap (refuse o) e)
+
+pub refused-not : (o : Outcome) (b : Bool) → Passed ≡ refuse o b → b ≡ false
+unfolding refuse
+refused-not o true e = absurd (true≢false (ap passed e))
+refused-not o false e = refl
 
 -- the first check refuses
 pub then-stop : (a b : Check) (o : Outcome) → Refused o ≡ a → Refused o ≡ (a then b)
@@ -46,11 +51,7 @@ then-first (Refused o) b e = e
 pub then-next : (a b : Check) → Passed ≡ (a then b) → Passed ≡ b
 unfolding _then_
 then-next Passed b e = e
-then-next (Refused o) b e = absurd (true≢false (ap is-passed e))
-  where
-    is-passed : Check → Bool
-    is-passed Passed = true
-    is-passed (Refused x) = false
+then-next (Refused o) b e = absurd (true≢false (ap passed e))
 
 -- ---- the checks one by one, by the tests that a code makes
 
@@ -134,3 +135,26 @@ lifetime-late clock lifetime r e t = refuse-yes ExpiryTooLate (tooLate clock lif
 pub lifetime-fits : (clock lifetime : ℕ) (r : Bool) → r ≡ tooLate clock lifetime → r ≡ false → Passed ≡ checkLifetime clock lifetime
 unfolding checkLifetime
 lifetime-fits clock lifetime r e t = refuse-no ExpiryTooLate (tooLate clock lifetime) (sym e ∙ t)
+
+-- ---- what passed checks say
+
+module _ (dir pool : List ℕ) (clock : ℕ) where
+  pub sound-passed : Passed ≡ checkSound dir pool → sound dir pool ≡ true
+  unfolding checkSound
+  sound-passed e = not-false (sound dir pool) (refused-not NotSound (not (sound dir pool)) e)
+
+  pub clock-passed : Passed ≡ clockChecks dir pool clock → sound dir pool ≡ true
+  unfolding clockChecks
+  clock-passed e = sound-passed (then-first (checkSound dir pool) (checkClock clock) e)
+
+  pub key-passed : (key : List ℕ) → Passed ≡ keyChecks dir pool clock key → sound dir pool ≡ true
+  unfolding keyChecks
+  key-passed key e = clock-passed (then-first (clockChecks dir pool clock) (checkKey key) e)
+
+  pub expire-passed : (key : List ℕ) (lifetime : ℕ) → Passed ≡ expireChecks dir pool clock key lifetime → sound dir pool ≡ true
+  unfolding expireChecks
+  expire-passed key lifetime e = key-passed key (then-first (keyChecks dir pool clock key) (checkLifetime clock lifetime) e)
+
+  pub expire-in-time : (key : List ℕ) (lifetime : ℕ) → Passed ≡ expireChecks dir pool clock key lifetime → tooLate clock lifetime ≡ false
+  unfolding expireChecks checkLifetime
+  expire-in-time key lifetime e = refused-not ExpiryTooLate (tooLate clock lifetime) (then-next (keyChecks dir pool clock key) (checkLifetime clock lifetime) e)

@@ -22,7 +22,7 @@ use Rattle.rules.specs.declared.Fit.{Fit}
 use Rattle.rules.specs.declared.Fit.the-variants.{Start, Nowhere}
 use Rattle.rules.specs.Layout.{cellsOf, needOf, none, memoryOf, put, Memory, remove, removeOldest}
 use Rattle.laws.specs.LayoutLaws.{entries-encode}
-use Rattle.rules.specs.Checks.{_then_, checkKind, checkNil, checkLifetime, checkInitial, keyChecks, storeChecks, incrChecks}
+use Rattle.rules.specs.Checks.{passed, _then_, checkKind, checkNil, checkLifetime, checkInitial, keyChecks, storeChecks, incrChecks}
 use Rattle.laws.specs.CallsLaws.{call-passed}
 use Rattle.rules.specs.Recency.{line, sweepCount, sweep, left, gone}
 use Rattle.laws.specs.RecencyLaws.{gone-left, rounds-few, never-over}
@@ -33,7 +33,7 @@ use Rattle.laws.specs.SoundnessLaws.{Sound}
 use Rattle.rules.specs.Answer.{numberOf, fieldsOf}
 use Rattle.rules.specs.LookUp.{lookUp}
 use Rattle.rules.specs.Calls.{Work, call, afterSweep, itemOf, storeWork, storeCall, incrWork, incrCall, Item, entryFor, needFor, placeAt, searched, evicted, fitOutcome, placeFit, placedBy, placeAnew}
-use Rattle.rules.specs.LeastLoss.{passed, notSafe, storeMustPlace, storePlacesAnew, incrMustPlace, incrPlacesAnew, LeastLossOf, Demand3, ownOut, restFor, lineFor, LeastLoss, Cheapest, Costs, Place}
+use Rattle.rules.specs.LeastLoss.{notSafe, storeMustPlace, storePlacesAnew, incrMustPlace, incrPlacesAnew, LeastLossOf, Demand3, ownOut, restFor, lineFor, LeastLoss, Cheapest, Costs, Place}
 use Rattle.laws.specs.LeastLossLaws.{passed-is, first-passed, keyed-sound, store-anew, incr-anew, cheapest, no-place, nothing-left, left-counted, after-rounds, stored-key, stored-value}
 use Rattle.laws.specs.Lists.{Each, nil, one, Pairs, none-yet, first, each-sub, each-map, each-with, each-all, each-at}
 use Rattle.laws.specs.Crowd.{Apart, Clear, held-none, clear-cells}

@@ -28,10 +28,10 @@ use Rattle.laws.specs.PlaceLaws.{FreeBehind, Fewest}
 use Rattle.laws.specs.CellLaws.{Alone, held-append, alone-apart, part-first, part-second}
 use Rattle.rules.specs.Soundness.{sound}
 use Rattle.laws.specs.SoundnessLaws.{Sound, sound-is}
-use Rattle.rules.specs.Checks.{_then_, refuse, checkSound, checkClock, checkKey, clockChecks, keyChecks}
+use Rattle.rules.specs.Checks.{passed, _then_, refuse, checkSound, checkClock, checkKey, clockChecks, keyChecks}
 use Rattle.laws.specs.ChecksLaws.{then-first, then-next}
 use Rattle.rules.specs.Calls.{deleteFound, sameLength, storeOver, storeItem, mostRounds, admits, storeAdmitted, storeFound, itemOf, inRange, incrNew, incrInitial, incrFound, Item, entryFor, placeAnew}
-use Rattle.rules.specs.LeastLoss.{passed, overwritesNone, notSafe, storeMustPlace, incrMustPlace, ownOut, Place, FreeOrWithin, Costs, Cheapest}
+use Rattle.rules.specs.LeastLoss.{overwritesNone, notSafe, storeMustPlace, incrMustPlace, ownOut, Place, FreeOrWithin, Costs, Cheapest}
 use Rattle.laws.specs.Booleans.{true-at, and-left, and-right, or-right}
 
 -- ---- free behind rounds is free or held within them
