@@ -1,11 +1,11 @@
 -- Laws of the layout: what is encoded is read back, and what a removal leaves.
 use mathlib.Core.Path.{_≡_, refl, sym, ap, _∙_}
-use mathlib.Core.List.{List, [], _∷_, _++_, append-nil}
+use mathlib.Core.List.{List, [], _∷_, _++_, append-assoc, append-nil}
 use Prim.Native.Nat.{ℕ, zero, suc, _+_, _-_, _*_, _≤_, _<_}
 use native.Mathlib.Omega.{arith}
 use native.Mathlib.Nat.{add-zero}
 use lib.ListN.{length, take, drop, getD, replicate, length-append, length-replicate, length-take, length-drop, drop-of-length-le}
-use lib.Seq.{drop-cons, drop-drop, getD-drop, length-take-le, take-length, take-take}
+use lib.Seq.{take-at, drop-at, drop-cons, drop-drop, getD-drop, length-take-le, take-length, take-take}
 use Rattle.rules.specs.declared.Entry.{Entry}
 use Rattle.rules.specs.Layout.{words, flat, encode, entryOf, entryAt, decode, entriesOf, none, Dir, without, put, Memory, remove, removeOldest}
 
@@ -82,6 +82,20 @@ dir-encode n es h =
 pub length-put : (d : List ℕ) (at : ℕ) (s : List ℕ) → at + length s ≤ length d → length (put d at s) ≡ length d
 unfolding put
 length-put d at s h = simp (length-append, length-drop, length-take) (omega arith)
+
+-- written one behind the other is written at once
+pub put-then : (d : List ℕ) (at : ℕ) (a b : List ℕ) → at + length a + length b ≤ length d → put (put d at a) (at + length a) b ≡ put d at (a ++ b)
+unfolding put
+put-then d at a b h =
+    let n : ℕ = at + length a in
+    let x : List ℕ = take at d ++ a in
+    let r : List ℕ = drop n d in
+    let lx : length x ≡ n = simp (length-append, length-take) (omega arith) in
+    let dropped : drop (n + length b) (x ++ r) ≡ drop (n + length b) d = sym (drop-drop (length b) n (x ++ r)) ∙ ap (drop (length b)) (drop-at x r n lx) ∙ drop-drop (length b) n d in
+    let whole : n + length b ≡ at + length (a ++ b) = omega (arith, length-append a b) in
+    ap (λ (l : List ℕ). (l ++ b) ++ drop (n + length b) (x ++ r)) (take-at x r n lx)
+    ∙ ap (λ (l : List ℕ). (x ++ b) ++ l) (dropped ∙ ap (λ (k : ℕ). drop k d) whole)
+    ∙ ap (λ (l : List ℕ). l ++ drop (at + length (a ++ b)) d) (append-assoc (take at d) a b)
 
 pub length-without : (i : ℕ) (es : List Entry) → i < length es → length (without i es) ≡ length es - 1
 unfolding without
