@@ -1,14 +1,16 @@
 -- The least limit over the marks of a line tells what the rounds of 01 come to.
 use mathlib.Core.Path.{_≡_, refl, sym, ap, _∙_, fun-ext}
-use mathlib.Core.List.{List, _++_}
+use mathlib.Core.List.{List, _++_, reverse}
 use Prim.Native.Nat.{ℕ, suc, _-_, _≤_, _<_}
 use native.Mathlib.Omega.{arith}
 use lib.ListN.{length, take, getD}
 use Rattle.rules.specs.declared.Entry.{Entry}
 use Rattle.rules.specs.declared.Fit.{Fit}
 use Rattle.rules.specs.declared.Fit.the-variants.{Start, Nowhere}
-use Rattle.rules.specs.Recency.{rounds, gone}
+use Rattle.rules.specs.Layout.{cellsOf, entriesOf, memoryOf}
+use Rattle.rules.specs.Recency.{line, rounds, gone}
 use Rattle.rules.specs.Place.{firstFree, run}
+use Rattle.laws.specs.SoundnessLaws.{Sound}
 use Rattle.laws.specs.RecencyLaws.{rounds-few}
 use Rattle.laws.specs.LeastLossLaws.{gone-counted, left-counted}
 use Rattle.laws.specs.Cost.{fitWithin, first-within, Look, limit-start, limit-nowhere}
@@ -17,7 +19,7 @@ use Rattle.eviction.specs.Fitting.{fitUnder}
 use Rattle.eviction.specs.Least.{LeastLimit, least-none}
 use Rattle.eviction.specs.Leaving.{Leaves}
 use Rattle.eviction.specs.Marking.{Marked}
-use Rattle.eviction.specs.Scratch.{zeros, zeros-length, back-front}
+use Rattle.eviction.specs.Scratch.{lent, kept, lent-length, back-front}
 
 -- a fit over the marks is a look behind so many rounds
 pub fit-look : {clock P : ℕ} {es : List Entry} {marks : List ℕ} (n k : ℕ) → Marked clock P es marks → k ≤ 30 → fitUnder marks k n ≡ Look clock P n es k
@@ -53,8 +55,9 @@ chosen {clock} {P} {n} {most} {limit} {ran} {went} {es} {marks} Nowhere m b l v 
       gone = v .went ∙ ap (λ (k : ℕ). length (gone clock k es)) e ∙ sym (ap (λ (k : ℕ). length (gone clock k es)) (r .1) ∙ ap length (gone-counted clock most es));
     }
 
--- the same, of marks made in a scratch array of n cells
-pub chosen-scratch : {clock need most limit ran went : ℕ} {es : List Entry} {last : List ℕ} (n P : ℕ) (rest : List ℕ) (f : Fit) → P ≤ n → Marked clock (length (take P (zeros n))) es last → most ≤ 30 → LeastLimit (take P (last ++ rest)) need most f limit → Leaves clock limit es ran went → Chosen clock P need most es (record { fit = f; ran = ran; gone = went })
-chosen-scratch {clock} {es = es} {last} n P rest f h m b l v =
-    let q : Marked clock P es last = rw (zeros-length n P h) at m in
-    chosen f q b (rw (back-front last rest n P h (m .size)) at l) v
+-- the same, of marks made in a scratch array of N cells
+pub chosen-scratch : (N : ℕ) {clock n most limit ran went : ℕ} {dir pool back : List ℕ} (s : Sound dir pool) (room : 1024 ≤ N) (f : Fit) → Marked clock (length (lent N s room)) (reverse (entriesOf dir)) back → most ≤ 30 → LeastLimit (take (cellsOf pool) (back ++ kept N s room)) n most f limit → Leaves clock limit (reverse (entriesOf dir)) ran went → Chosen clock (cellsOf pool) n most (line (memoryOf dir pool)) (record { fit = f; ran = ran; gone = went })
+unfolding memoryOf
+chosen-scratch N {clock} {dir = dir} {pool} {back} s room f m b l v =
+    let q : Marked clock (cellsOf pool) (reverse (entriesOf dir)) back = rw (lent-length N s room) at m in
+    chosen f q b (rw (back-front N s room back (m .size)) at l) v

@@ -1,5 +1,5 @@
 -- The rounds that run, counted entry by entry from the longest unused on.
-use mathlib.Core.Path.{_≡_, refl, sym, ap, _∙_}
+use mathlib.Core.Path.{_≡_, sym, ap, _∙_}
 use mathlib.Core.Bool.{Bool}
 use mathlib.Core.List.{List, [], _∷_, reverse}
 use mathlib.Core.Logic.{⊎-elim}
@@ -12,7 +12,7 @@ use Rattle.rules.specs.Time.{dead}
 use Rattle.rules.specs.Recency.{deads, after, rounds, gone}
 use Rattle.laws.specs.RecencyLaws.{deads-zero, deads-within}
 use Rattle.eviction.specs.declared.Turn.{Turn}
-use Rattle.eviction.specs.Turns.{roundOf, moreOf, nextTurn, Joins, Begins, turn-of}
+use Rattle.eviction.specs.Turns.{roundOf, nextTurn, Joins, Begins, turn-of}
 use Rattle.eviction.specs.Lines.{lineTo, line-all, line-next, deads-nil, rounds-nil, gone-nil}
 
 -- how many of the first `limit` rounds of a line there are, and how many entries they take
@@ -20,51 +20,63 @@ pub record Leaves (clock limit : ℕ) (es : List Entry) (n m : ℕ) : Type 0 whe
   pub ran : n ≡ length (rounds clock limit es)
   pub went : m ≡ length (gone clock limit es)
 
--- ---- what is left to count, where r rounds are begun and the last of them takes k more dead entries
+-- ---- what is left to count, by the turn of the entry before
 
 module _ (clock limit : ℕ) where
-  abbrev ranFrom : ℕ → ℕ → List Entry → ℕ
-  ranFrom r k es = r + length (rounds clock (limit - r) (drop (deads clock k es) es))
+  abbrev ranFrom : Turn → List Entry → ℕ
+  ranFrom t es = t .round + length (rounds clock (limit - t .round) (drop (deads clock (t .more) es) es))
 
-  abbrev wentFrom : ℕ → ℕ → List Entry → ℕ
-  wentFrom r k es = deads clock k es + length (gone clock (limit - r) (drop (deads clock k es) es))
+  abbrev wentFrom : Turn → List Entry → ℕ
+  wentFrom t es = deads clock (t .more) es + length (gone clock (limit - t .round) (drop (deads clock (t .more) es) es))
 
-  -- both stay the same from an entry to the next, but that one more has gone
-  record Steps (r k q m : ℕ) (e : Entry) (es : List Entry) : Type 0 where
-    ran : ranFrom r k (e ∷ es) ≡ ranFrom q m es
-    went : wentFrom r k (e ∷ es) ≡ suc (wentFrom q m es)
+  -- from an entry to the next, one more has gone
+  record Steps (t u : Turn) (e : Entry) (es : List Entry) : Type 0 where
+    ran : ranFrom t (e ∷ es) ≡ ranFrom u es
+    went : wentFrom t (e ∷ es) ≡ suc (wentFrom u es)
 
-  begins-ran : (r : ℕ) (e : Entry) (es : List Entry) → r + 1 ≤ limit → r + length (rounds clock (limit - r) (e ∷ es)) ≡ ranFrom (r + 1) 2 es
+  -- nothing is left to count
+  record Ends (t : Turn) (es : List Entry) : Type 0 where
+    ran : ranFrom t es ≡ t .round
+    went : wentFrom t es ≡ 0
+
+  begins-ran : (r : ℕ) (e : Entry) (es : List Entry) → r + 1 ≤ limit → r + length (rounds clock (limit - r) (e ∷ es)) ≡ ranFrom (record { round = r + 1; more = 2 }) es
   unfolding rounds after
   begins-ran r e es l = let w : limit - r ≡ suc (limit - (r + 1)) = omega arith in rw w (omega arith)
 
-  begins-went : (r : ℕ) (e : Entry) (es : List Entry) → r + 1 ≤ limit → length (gone clock (limit - r) (e ∷ es)) ≡ suc (wentFrom (r + 1) 2 es)
+  begins-went : (r : ℕ) (e : Entry) (es : List Entry) → r + 1 ≤ limit → length (gone clock (limit - r) (e ∷ es)) ≡ suc (wentFrom (record { round = r + 1; more = 2 }) es)
   unfolding gone after
   begins-went r e es l =
       let w : limit - r ≡ suc (limit - (r + 1)) = omega arith in
       rw w (simp (length-append, length-take) (omega (arith, deads-within clock 2 es)))
 
-  steps : (r k : ℕ) (e : Entry) (es : List Entry) → limit ≤ 30 → roundOf (dead clock e) r k ≤ limit → Steps r k (roundOf (dead clock e) r k) (moreOf (dead clock e) k) e es
-  steps r k e es f l = ⊎-elim joins begins (turn-of clock r k e es)
+  steps : (t : Turn) (e : Entry) (es : List Entry) → limit ≤ 30 → nextTurn (dead clock e) t .round ≤ limit → Steps t (nextTurn (dead clock e) t) e es
+  steps t e es f l = ⊎-elim joins begins (turn-of clock (t .round) (t .more) e es)
     where
-      joins : Joins clock r k e es → Steps r k (roundOf (dead clock e) r k) (moreOf (dead clock e) k) e es
-      joins j = rw (j .round) (record { ran = rw (j .counted); went = rw (j .counted) (omega arith) })
+      joins : Joins clock (t .round) (t .more) e es → Steps t (nextTurn (dead clock e) t) e es
+      joins j = record { ran = rw (j .counted, j .round); went = rw (j .counted, j .round) (omega arith) }
 
-      begins : Begins clock r k e es → Steps r k (roundOf (dead clock e) r k) (moreOf (dead clock e) k) e es
+      begins : Begins clock (t .round) (t .more) e es → Steps t (nextTurn (dead clock e) t) e es
       begins b =
-          let t : roundOf (dead clock e) r k ≡ r + 1 = b .round ∙ omega (arith, b .round) in
-          rw (t, b .two) (record { ran = rw (b .none) (begins-ran r e es (omega arith)); went = rw (b .none) (omega (arith, begins-went r e es (omega arith))) })
+          let r : roundOf (dead clock e) (t .round) (t .more) ≡ t .round + 1 = b .round ∙ omega (arith, b .round) in
+          record {
+            ran = rw (b .none, r, b .two) (begins-ran (t .round) e es (omega arith));
+            went = rw (b .none, r, b .two) (omega (arith, begins-went (t .round) e es (omega arith)));
+          }
 
   -- the next entry would begin a round too many
-  stops : (r k : ℕ) (e : Entry) (es : List Entry) → r ≤ limit → limit < roundOf (dead clock e) r k → (ranFrom r k (e ∷ es) ≡ r) × (wentFrom r k (e ∷ es) ≡ 0)
+  stops : (t : Turn) (e : Entry) (es : List Entry) → t .round ≤ limit → limit < nextTurn (dead clock e) t .round → Ends t (e ∷ es)
   unfolding rounds gone
-  stops r k e es b l = ⊎-elim (λ j. absurd (omega (arith, j .round))) begins (turn-of clock r k e es)
+  stops t e es b l = ⊎-elim (λ j. absurd (omega (arith, j .round))) begins (turn-of clock (t .round) (t .more) e es)
     where
-      begins : Begins clock r k e es → (ranFrom r k (e ∷ es) ≡ r) × (wentFrom r k (e ∷ es) ≡ 0)
-      begins b = let w : limit - r ≡ 0 = omega (arith, b .round) in rw (b .none, w) (omega arith, refl)
+      begins : Begins clock (t .round) (t .more) e es → Ends t (e ∷ es)
+      begins b = let w : limit - t .round ≡ 0 = omega (arith, b .round) in record { ran = rw (b .none, w) (omega arith); went = rw (b .none, w) }
 
-  ends : (r k : ℕ) → (ranFrom r k [] ≡ r) × (wentFrom r k [] ≡ 0)
-  ends r k = rw (deads-nil clock k, rounds-nil clock (limit - r), gone-nil clock (limit - r)) (omega arith, refl)
+  ends : (t : Turn) → Ends t []
+  ends t =
+      record {
+        ran = rw (deads-nil clock (t .more), rounds-nil clock (limit - t .round)) (omega arith);
+        went = rw (deads-nil clock (t .more), gone-nil clock (limit - t .round));
+      }
 
 -- ---- the loop over a directory
 
@@ -72,8 +84,8 @@ module _ (clock limit : ℕ) where
 pub record Leaving (clock limit : ℕ) (es : List Entry) (left : ℕ) (t : Turn) : Type 0 where
   pub count : left ≤ length es
   pub begun : t .round ≤ limit
-  pub ran : length (rounds clock limit (reverse es)) ≡ ranFrom clock limit (t .round) (t .more) (lineTo es left)
-  pub went : length (gone clock limit (reverse es)) ≡ length es - left + wentFrom clock limit (t .round) (t .more) (lineTo es left)
+  pub ran : length (rounds clock limit (reverse es)) ≡ ranFrom clock limit t (lineTo es left)
+  pub went : length (gone clock limit (reverse es)) ≡ length es - left + wentFrom clock limit t (lineTo es left)
 
 module _ {clock limit : ℕ} {es : List Entry} where
   pub leaving-none : {n : ℕ} → n ≡ length es → Leaving clock limit es n (record { round = 0; more = 0 })
@@ -87,33 +99,41 @@ module _ {clock limit : ℕ} {es : List Entry} where
       }
 
   module _ {left : ℕ} {t : Turn} (v : Leaving clock limit es left t) where
-    next-turn : {d : Bool} {e : Entry} {u : Turn} → e ≡ getD es (left - 1) none → d ≡ dead clock e → u ≡ nextTurn d t → u ≡ nextTurn (dead clock (getD es (left - 1) none)) t
+    -- the last entry of those left
+    abbrev next : Entry
+    next = getD es (left - 1) none
+
+    next-line : 0 < left → lineTo es left ≡ next ∷ lineTo es (left - 1)
+    next-line h = line-next es left h (v .count)
+
+    next-turn : {d : Bool} {e : Entry} {u : Turn} → e ≡ next → d ≡ dead clock e → u ≡ nextTurn d t → u ≡ nextTurn (dead clock next) t
     next-turn x y z = z ∙ ap (λ (b : Bool). nextTurn b t) (y ∙ ap (dead clock) x)
 
-    -- the last entry of those left goes with its turn
-    pub leaving-more : {d : Bool} {e : Entry} {u : Turn} → 0 < left → limit ≤ 30 → e ≡ getD es (left - 1) none → d ≡ dead clock e → u ≡ nextTurn d t → u .round ≤ limit → Leaving clock limit es (left - 1) u
+    -- it goes with its turn
+    pub leaving-more : {d : Bool} {e : Entry} {u : Turn} → 0 < left → limit ≤ 30 → e ≡ next → d ≡ dead clock e → u ≡ nextTurn d t → u .round ≤ limit → Leaving clock limit es (left - 1) u
     leaving-more {u = u} h f x y z l =
-        let w : u ≡ nextTurn (dead clock (getD es (left - 1) none)) t = next-turn x y z in
-        let s : Steps clock limit (t .round) (t .more) (u .round) (u .more) (getD es (left - 1) none) (lineTo es (left - 1)) = rw w (steps clock limit (t .round) (t .more) (getD es (left - 1) none) (lineTo es (left - 1)) f (rw w at l)) in
+        let w : u ≡ nextTurn (dead clock next) t = next-turn x y z in
+        let s : Steps clock limit t u next (lineTo es (left - 1)) = rw w (steps clock limit t next (lineTo es (left - 1)) f (rw w at l)) in
         record {
           count = omega (arith, v .count);
           begun = l;
-          ran = v .ran ∙ ap (ranFrom clock limit (t .round) (t .more)) (line-next es left h (v .count)) ∙ s .ran;
-          went = v .went ∙ omega (arith, v .count, ap (wentFrom clock limit (t .round) (t .more)) (line-next es left h (v .count)), s .went);
+          ran = v .ran ∙ ap (ranFrom clock limit t) (next-line h) ∙ s .ran;
+          went = v .went ∙ omega (arith, v .count, ap (wentFrom clock limit t) (next-line h), s .went);
         }
 
-    leaves-with : {n : ℕ} → n ≡ length es → ranFrom clock limit (t .round) (t .more) (lineTo es left) ≡ t .round → wentFrom clock limit (t .round) (t .more) (lineTo es left) ≡ 0 → Leaves clock limit (reverse es) (t .round) (n - left)
-    leaves-with e a b = record { ran = sym (v .ran ∙ a); went = sym (v .went ∙ omega arith) }
+    leaves-all : {n : ℕ} {rest : List Entry} → n ≡ length es → lineTo es left ≡ rest → Ends clock limit t rest → Leaves clock limit (reverse es) (t .round) (n - left)
+    leaves-all e x s =
+        record {
+          ran = sym (v .ran ∙ ap (ranFrom clock limit t) x ∙ s .ran);
+          went = sym (v .went ∙ omega (arith, ap (wentFrom clock limit t) x, s .went));
+        }
 
     -- or it would begin a round too many
-    pub leaves-stop : {n : ℕ} {d : Bool} {e : Entry} {u : Turn} → n ≡ length es → 0 < left → e ≡ getD es (left - 1) none → d ≡ dead clock e → u ≡ nextTurn d t → limit < u .round → Leaves clock limit (reverse es) (t .round) (n - left)
+    pub leaves-stop : {n : ℕ} {d : Bool} {e : Entry} {u : Turn} → n ≡ length es → 0 < left → e ≡ next → d ≡ dead clock e → u ≡ nextTurn d t → limit < u .round → Leaves clock limit (reverse es) (t .round) (n - left)
     leaves-stop {u = u} e h x y z l =
-        let w : u ≡ nextTurn (dead clock (getD es (left - 1) none)) t = next-turn x y z in
-        let s : (ranFrom clock limit (t .round) (t .more) (getD es (left - 1) none ∷ lineTo es (left - 1)) ≡ t .round) × (wentFrom clock limit (t .round) (t .more) (getD es (left - 1) none ∷ lineTo es (left - 1)) ≡ 0) = stops clock limit (t .round) (t .more) (getD es (left - 1) none) (lineTo es (left - 1)) (v .begun) (rw w at l) in
-        leaves-with e (ap (ranFrom clock limit (t .round) (t .more)) (line-next es left h (v .count)) ∙ s .0) (ap (wentFrom clock limit (t .round) (t .more)) (line-next es left h (v .count)) ∙ s .1)
+        let w : u ≡ nextTurn (dead clock next) t = next-turn x y z in
+        leaves-all e (next-line h) (stops clock limit t next (lineTo es (left - 1)) (v .begun) (rw w at l))
 
     -- or none is left
     pub leaves-end : {n : ℕ} → n ≡ length es → left ≤ 0 → Leaves clock limit (reverse es) (t .round) (n - left)
-    leaves-end e z =
-        let x : lineTo es left ≡ [] = let w : left ≡ 0 = omega arith in ap (lineTo es) w in
-        leaves-with e (ap (ranFrom clock limit (t .round) (t .more)) x ∙ ends clock limit (t .round) (t .more) .0) (ap (wentFrom clock limit (t .round) (t .more)) x ∙ ends clock limit (t .round) (t .more) .1)
+    leaves-end e z = let w : left ≡ 0 = omega arith in leaves-all e (ap (lineTo es) w) (ends clock limit t)

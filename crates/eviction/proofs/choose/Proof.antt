@@ -1,11 +1,9 @@
 -- `eviction::choose` meets its contract.
 use mathlib.Core.Path.{sym}
 use native.Mathlib.Omega.{arith}
-use lib.ListN.{drop}
 use borrow.Author.Needs.{needs}
-use Rattle.rules.specs.Layout.{cellsOf, memoryOf}
 use Rattle.laws.specs.SoundnessLaws.{sound-is}
-use Rattle.eviction.specs.Scratch.{zeros, zeros-length, zeros-blank, back-room, back-length}
+use Rattle.eviction.specs.Scratch.{lent-length, lent-blank, back-room, back-length}
 use Rattle.eviction.specs.ChoiceLaws.{chosen-scratch}
 use Rattle.eviction.proofs.choose.Statement.{statement}
 use Rattle.eviction.proofs.choose.Tie as tie
@@ -14,16 +12,16 @@ array-borrow-prefix-marks : tie.Need-array-borrow-prefix-marks
 array-borrow-prefix-marks c = omega (arith, sound-is _ _ (c .before .before .pre .0) .few-cells)
 
 slice-aggregate-mark-line : tie.Need-slice-aggregate-mark-line
-slice-aggregate-mark-line c = sym (zeros-length 1024 (cellsOf (c .before .before .before .args .pool .now)) (sound-is _ _ (c .before .before .before .pre .0) .few-cells))
+slice-aggregate-mark-line c = sym (lent-length 1024 (sound-is _ _ (c .before .before .before .pre .0)) (omega arith))
 
 mark-line-requires : tie.Need-mark-line-requires
-mark-line-requires c κs = zeros-blank 1024 (sound-is _ _ (c .before .before .before .pre .0)) (sound-is _ _ (c .before .before .before .pre .0) .few-cells)
+mark-line-requires c κs = lent-blank 1024 (sound-is _ _ (c .before .before .before .pre .0)) (omega arith)
 
 array-share-prefix-marks : tie.Need-array-share-prefix-marks
-array-share-prefix-marks c = back-room (c .before .mark-line .last .0) (drop (cellsOf (c .before .before .before .before .before .args .pool .now)) (zeros 1024)) 1024 (cellsOf (c .before .before .before .before .before .args .pool .now)) (sound-is _ _ (c .before .before .before .before .before .pre .0) .few-cells) (c .before .mark-line .ensures .size)
+array-share-prefix-marks c = back-room 1024 (sound-is _ _ (c .before .before .before .before .before .pre .0)) (omega arith) (c .before .mark-line .last .0) (c .before .mark-line .ensures .size)
 
 slice-aggregate-least-limit : tie.Need-slice-aggregate-least-limit
-slice-aggregate-least-limit c = back-length (c .before .before .mark-line .last .0) (drop (cellsOf (c .before .before .before .before .before .before .args .pool .now)) (zeros 1024)) 1024 (cellsOf (c .before .before .before .before .before .before .args .pool .now)) (sound-is _ _ (c .before .before .before .before .before .before .pre .0) .few-cells) (c .before .before .mark-line .ensures .size)
+slice-aggregate-least-limit c = back-length 1024 (sound-is _ _ (c .before .before .before .before .before .before .pre .0)) (omega arith) (c .before .before .mark-line .last .0) (c .before .before .mark-line .ensures .size)
 
 least-limit-requires : tie.Need-least-limit-requires
 least-limit-requires c κs = search needs
@@ -32,8 +30,7 @@ rounds-of-requires : tie.Need-rounds-of-requires
 rounds-of-requires c κs = (sound-is _ _ (c .before .before .before .before .before .before .before .pre .0) .dir-is, omega (arith, c .least-limit .ensures .few))
 
 returns : tie.Need-returns
-unfolding memoryOf
-returns c = chosen-scratch 1024 (cellsOf (c .before .before .before .before .before .before .before .before .args .pool .now)) (drop (cellsOf (c .before .before .before .before .before .before .before .before .args .pool .now)) (zeros 1024)) (c .before .least-limit .result .fit) (sound-is _ _ (c .before .before .before .before .before .before .before .before .pre .0) .few-cells) (c .before .before .before .before .mark-line .ensures) (c .before .before .before .before .before .before .before .before .pre .1 .1) (c .before .least-limit .ensures) (c .rounds-of .ensures)
+returns c = chosen-scratch 1024 (sound-is _ _ (c .before .before .before .before .before .before .before .before .pre .0)) (omega arith) (c .before .least-limit .result .fit) (c .before .before .before .before .mark-line .ensures) (c .before .before .before .before .before .before .before .before .pre .1 .1) (c .before .least-limit .ensures) (c .rounds-of .ensures)
 
 pub choose-spec : {M : Type 1} → statement M
 choose-spec =
