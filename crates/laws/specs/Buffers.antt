@@ -9,7 +9,8 @@ use Rattle.rules.specs.declared.Entry.{Entry}
 use Rattle.rules.specs.Layout.{cellsOf, encode, entriesOf, none, valueOffset, Dir, Memory, memoryOf, remove, removeOldest}
 use Rattle.rules.specs.Recency.{sweepCount, sweep}
 use Rattle.rules.specs.Soundness.{sound}
-use Rattle.rules.specs.Calls.{Holds}
+use Rattle.rules.specs.declared.Answer.{Answer}
+use Rattle.rules.specs.Calls.{Holds, Work, Does}
 use Rattle.laws.specs.LayoutLaws.{entries-encode, length-encode, oldest-entries, oldest-pool}
 use Rattle.laws.specs.SoundnessLaws.{Sound, sound-is}
 use Rattle.laws.specs.SoundMemory.{Fine, SoundMemory, memory-of, few, sound-encode}
@@ -26,6 +27,15 @@ holds-memory {n} {m} h = rw (h .words, h .bytes, entries-encode n (m .entries))
 pub holds-itself : (dir pool : List ℕ) → Dir dir → Holds (length dir) (memoryOf dir pool) dir pool
 unfolding memoryOf
 holds-itself dir pool d = record { words = d .shape; bytes = refl }
+
+-- work that is told otherwise
+pub does-is : {w w' : Work} {n : ℕ} {a : Answer} {dir pool : List ℕ} → w ≡ w' → Does w n a dir pool → Does w' n a dir pool
+does-is {w} {w'} {n} {a} {dir} {pool} e d = subst (λ (x : Work). Does x n a dir pool) e d
+
+-- work on what a step before it left
+pub does-behind : (work : Memory → Work) {n : ℕ} {m : Memory} {dir₁ pool₁ : List ℕ} {a : Answer} {dir₂ pool₂ : List ℕ} → Holds n m dir₁ pool₁ → length dir₁ ≡ n → Does (work (memoryOf dir₁ pool₁)) (length dir₁) a dir₂ pool₂ → Does (work m) n a dir₂ pool₂
+does-behind work {n} {m} {dir₁} {pool₁} {a} {dir₂} {pool₂} h l d =
+    subst (λ (k : ℕ). Does (work m) k a dir₂ pool₂) l (subst (λ (x : Memory). Does (work x) (length dir₁) a dir₂ pool₂) (holds-memory h) d)
 
 -- the longest unused entries out: none, or all at once
 pub oldest-none : (dir pool : List ℕ) (n : ℕ) → n ≡ 0 → Dir dir → Holds (length dir) (removeOldest n (memoryOf dir pool)) dir pool

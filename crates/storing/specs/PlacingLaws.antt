@@ -1,8 +1,8 @@
 -- Placing anew, step by step: the choice, the rounds out, and the entry written.
-use mathlib.Core.Path.{_≡_, refl, sym, ap, subst, _∙_}
-use mathlib.Core.Bool.{Bool, true, false}
-use mathlib.Core.List.{List, [], _∷_, _++_, reverse}
-use Prim.Native.Nat.{ℕ, _+_, _-_, _*_, _≤_, _<_}
+use mathlib.Core.Path.{_≡_, sym, ap, subst, _∙_}
+use mathlib.Core.Bool.{true, false}
+use mathlib.Core.List.{List, _∷_}
+use Prim.Native.Nat.{ℕ, _+_, _*_, _≤_}
 use native.Mathlib.Omega.{arith}
 use lib.Dec.{ltb}
 use lib.ListN.{length, length-append, length-reverse}
@@ -12,7 +12,7 @@ use Rattle.rules.specs.declared.Outcome.{Outcome}
 use Rattle.rules.specs.declared.Outcome.the-variants.{NoMemory}
 use Rattle.rules.specs.declared.Fit.{Fit}
 use Rattle.rules.specs.declared.Fit.the-variants.{Start, Nowhere}
-use Rattle.rules.specs.Layout.{cellsOf, need, encode, entriesOf, put, Memory, memoryOf, removeOldest}
+use Rattle.rules.specs.Layout.{cellsOf, encode, entriesOf, put, Memory, memoryOf, removeOldest}
 use Rattle.rules.specs.Recency.{line, left, gone}
 use Rattle.rules.specs.Place.{held, Placed, run}
 use Rattle.rules.specs.Soundness.{sound}
@@ -26,11 +26,9 @@ use Rattle.laws.specs.Bytes.{FineItem}
 use Rattle.laws.specs.SoundMemory.{SoundMemory, few}
 use Rattle.laws.specs.Blocks.{sound-place}
 use Rattle.laws.specs.Keys.{clear-from}
-use Rattle.laws.specs.Buffers.{holds-memory, given-sound, given-memory, step-sound, step-length, oldest-sound}
+use Rattle.laws.specs.Buffers.{holds-memory, given-sound, given-memory, step-length, oldest-sound}
 use Rattle.eviction.specs.declared.Choice.{Choice}
 use Rattle.eviction.specs.Choice.{Chosen}
-use Rattle.storing.specs.declared.Order.{Order}
-use Rattle.storing.specs.Order.{itemFrom, Storable}
 use Rattle.storing.specs.Placing.{Fits}
 
 -- ---- the entry written
@@ -60,6 +58,22 @@ module _ (dir pool : List ℕ) (t : sound dir pool ≡ true) (item : Item) (star
 
 -- ---- the choice
 
+-- for a need that is told otherwise
+pub chosen-for : {clock P n n' most : ℕ} {es : List Entry} {r : Choice} → n ≡ n' → Chosen clock P n most es r → Chosen clock P n' most es r
+chosen-for {clock} {P} {n} {n'} {most} {es} {r} e c = subst (λ (k : ℕ). Chosen clock P k most es r) e c
+
+-- the rounds take entries of the line
+module _ (dir pool : List ℕ) (t : sound dir pool ≡ true) (clock most n : ℕ) (r : Choice) (c : Chosen clock (cellsOf pool) n most (line (memoryOf dir pool)) r) where
+  pub gone-within : r .gone ≤ length (entriesOf dir)
+  unfolding memoryOf
+  gone-within =
+      let es : List Entry = line (memoryOf dir pool) in
+      let k : ℕ = run clock (cellsOf pool) n most es .ran in
+      omega (arith, c .gone, ap length (gone-left clock k es), length-append (gone clock k es) (left clock k es), length-reverse (entriesOf dir))
+
+  pub gone-few : r .gone ≤ 1024
+  gone-few = omega (arith, gone-within, given-sound dir pool t)
+
 module _ (dir pool : List ℕ) (t : sound dir pool ≡ true) (clock most : ℕ) (item : Item) (r : Choice) (c : Chosen clock (cellsOf pool) (needFor item) most (line (memoryOf dir pool)) r) where
   abbrev m : Memory
   m = memoryOf dir pool
@@ -70,23 +84,12 @@ module _ (dir pool : List ℕ) (t : sound dir pool ≡ true) (clock most : ℕ) 
   abbrev p : Placed
   p = run clock (cellsOf pool) (needFor item) most es
 
-  -- the rounds take entries of the line
-  pub gone-within : r .gone ≤ length (entriesOf dir)
-  unfolding memoryOf
-  gone-within = omega (arith, c .gone, ap length (gone-left clock (p .ran) es), length-append (gone clock (p .ran) es) (left clock (p .ran) es), length-reverse (entriesOf dir))
-
-  pub gone-few : r .gone ≤ 1024
-  gone-few = omega (arith, gone-within, given-sound dir pool t)
-
   -- the memory behind them
   behind-is : r .gone ≡ length (evicted clock p m)
   unfolding evicted
   behind-is = c .gone
 
   module _ {dir₁ pool₁ : List ℕ} (h : Holds (length dir) (removeOldest (r .gone) m) dir₁ pool₁) where
-    pub behind-sound : sound dir₁ pool₁ ≡ true
-    behind-sound = step-sound dir pool t (oldest-sound dir pool t (r .gone)) h
-
     behind-length : length dir₁ ≡ length dir
     behind-length = step-length dir pool t (oldest-sound dir pool t (r .gone)) h
 
@@ -106,3 +109,26 @@ module _ (dir pool : List ℕ) (t : sound dir pool ≡ true) (clock most : ℕ) 
 
     pub chosen-fits : (start : ℕ) → r .fit ≡ Start start → Fits item start (memoryOf dir₁ pool₁)
     chosen-fits start e = fits-by (p .fit) (p .ran) start (run-ran clock (cellsOf pool) (needFor item) most es) (sym (c .fit) ∙ e) (c .gone)
+
+    -- the answer of a choice, with a fit of its own
+    abbrev answered : Outcome → ℕ → Fit → Answer
+    answered told swept f = record { rounds = r .ran; removed = swept + r .gone; forced = ltb 0 (r .ran); stale = false; outcome = fitOutcome told f }
+
+    work-is : (told : Outcome) (swept : ℕ) (f : Fit) → r .fit ≡ f → record { answer = answered told swept f; memory = placeFit item f (removeOldest (r .gone) m) } ≡ placeAnew most clock item told swept m
+    unfolding placeAnew searched placedBy evicted forcedBy memoryOf
+    work-is told swept f e = rw (sym e, c .fit, c .ran, c .gone)
+
+    -- no place: only the rounds are gone
+    pub refused-does : (told : Outcome) (swept : ℕ) (a : Answer) → r .fit ≡ Nowhere → a ≡ record { rounds = r .ran; removed = swept + r .gone; forced = ltb 0 (r .ran); stale = false; outcome = NoMemory } → Does (placeAnew most clock item told swept m) (length dir) a dir₁ pool₁
+    unfolding fitOutcome placeFit
+    refused-does told swept a e q = subst (λ (w : Work). Does w (length dir) a dir₁ pool₁) (work-is told swept Nowhere e) (record { answer = q; memory = h })
+
+    -- a place: the entry is stored there too
+    pub placed-does : (told : Outcome) (swept : ℕ) (a : Answer) (start : ℕ) {dir₂ pool₂ : List ℕ} → r .fit ≡ Start start → Holds (length dir₁) (placeAt item start (memoryOf dir₁ pool₁)) dir₂ pool₂ → a ≡ record { rounds = r .ran; removed = swept + r .gone; forced = ltb 0 (r .ran); stale = false; outcome = told } → Does (placeAnew most clock item told swept m) (length dir) a dir₂ pool₂
+    unfolding fitOutcome placeFit
+    placed-does told swept a start {dir₂} {pool₂} e k q =
+        subst (λ (w : Work). Does w (length dir) a dir₂ pool₂) (work-is told swept (Start start) e)
+        (record {
+          answer = q;
+          memory = subst (λ (x : Memory). Holds (length dir) (placeAt item start x) dir₂ pool₂) (holds-memory h) (subst (λ (n : ℕ). Holds n (placeAt item start (memoryOf dir₁ pool₁)) dir₂ pool₂) behind-length k);
+        })

@@ -6,7 +6,9 @@ ghost use lib.ListN.{length, getD};
 ghost use Rattle.rules.specs.Layout.{entriesOf, none, memoryOf};
 ghost use Rattle.rules.specs.LookUp.{lookUp};
 ghost use Rattle.rules.specs.Soundness.{sound};
-ghost use Rattle.rules.specs.Calls.{Holds, Does, rewriteAt, placeAt, placeAnew, storeItem, storeOver};
+ghost use Rattle.rules.specs.Calls.{Holds, Does, rewriteAt, placeAt, placeAnew, storeItem, storeOver, admits, mostRounds, storeFound};
+ghost use Rattle.rules.specs.declared.Outcome.the-variants.{Done};
+ghost use Rattle.rules.specs.declared.Operation.the-variants.{Add, Replace};
 ghost use Rattle.storing.specs.Order.{itemFrom, Storable};
 ghost use Rattle.storing.specs.Placing.{Fits};
 use rules::Answer;
@@ -98,4 +100,128 @@ fn place_anew(
         stale: false,
         outcome: told,
     }
+}
+
+// Stores over the entry at i, the key's own: in place where the value is as long, and else that entry goes first.
+fn store_over(
+    dir: &mut [u64],
+    pool: &mut [u8],
+    clock: u64,
+    key: &[u8],
+    value: &[u8],
+    order: Order,
+    i: usize,
+) -> Answer
+    requires { ⌜ sound (now dir) (now pool) ≡ true ⌝ }
+    requires { ⌜ Storable order (now key) (now value) ⌝ }
+    requires { ⌜ i < length (entriesOf (now dir)) ⌝ }
+    ensures { λ r. ⌜ Does (storeOver (order .most) clock (itemFrom order (now (key .entry)) (now (value .entry))) (order .told) (order .removed) (memoryOf (now (dir .entry)) (now (pool .entry))) i) (length (now (dir .entry))) r (now (dir .exit)) (now (pool .exit)) ⌝ }
+{
+    let old = directory::record_at(dir, i);
+    if old.vlen != value.len() as u64 {
+        memory::remove(dir, pool, i);
+        return place_anew(dir, pool, clock, key, value, order);
+    }
+    let e = Entry {
+        expiry: order.expiry,
+        kind: order.kind,
+        flags: order.flags,
+        start: old.start,
+        klen: key.len() as u64,
+        vlen: value.len() as u64,
+    };
+    rewrite_at(dir, pool, i, e, value);
+    let told = order.told;
+    Answer::plain(told, order.removed)
+}
+
+// Stores a value under a key, of which the look-up has found what it found.
+fn store_item(
+    dir: &mut [u64],
+    pool: &mut [u8],
+    clock: u64,
+    key: &[u8],
+    value: &[u8],
+    order: Order,
+    found: Found,
+) -> Answer
+    requires { ⌜ sound (now dir) (now pool) ≡ true ⌝ }
+    requires { ⌜ Storable order (now key) (now value) ⌝ }
+    requires { ⌜ found ≡ lookUp clock (now key) (memoryOf (now dir) (now pool)) ⌝ }
+    ensures { λ r. ⌜ Does (storeItem (order .most) clock (itemFrom order (now (key .entry)) (now (value .entry))) (order .told) (order .removed) (memoryOf (now (dir .entry)) (now (pool .entry))) found) (length (now (dir .entry))) r (now (dir .exit)) (now (pool .exit)) ⌝ }
+{
+    match found {
+        Found::Live(i) => store_over(dir, pool, clock, key, value, order, i),
+        Found::Dead(i) => store_over(dir, pool, clock, key, value, order, i),
+        Found::Missing => place_anew(dir, pool, clock, key, value, order),
+    }
+}
+
+// replace wants a live entry, add none.
+fn admits(op: Operation, found: Found) -> Check
+    ensures { λ r. ⌜ r ≡ admits op found ⌝ }
+{
+    match op {
+        Operation::Set => Check::Passed,
+        Operation::SafeSet => Check::Passed,
+        Operation::Add => admits_add(found),
+        Operation::SafeAdd => admits_add(found),
+        Operation::Replace => admits_replace(found),
+    }
+}
+
+fn admits_add(found: Found) -> Check
+    ensures { λ r. ⌜ r ≡ admits Add found ⌝ }
+{
+    match found {
+        Found::Live(_) => Check::Refused(Outcome::Exists),
+        Found::Dead(_) => Check::Passed,
+        Found::Missing => Check::Passed,
+    }
+}
+
+fn admits_replace(found: Found) -> Check
+    ensures { λ r. ⌜ r ≡ admits Replace found ⌝ }
+{
+    match found {
+        Found::Live(_) => Check::Passed,
+        Found::Dead(_) => Check::Refused(Outcome::NotFound),
+        Found::Missing => Check::Refused(Outcome::NotFound),
+    }
+}
+
+// The rounds that may run: 30, and none for a safe form.
+fn most_rounds(op: Operation) -> usize
+    ensures { λ r. ⌜ r ≡ mostRounds op ⌝ }
+{
+    match op {
+        Operation::Set => 30,
+        Operation::SafeSet => 0,
+        Operation::Add => 30,
+        Operation::SafeAdd => 0,
+        Operation::Replace => 30,
+    }
+}
+
+// A store of a value that is not nil, behind its sweep.
+fn store_swept(
+    op: Operation,
+    dir: &mut [u64],
+    pool: &mut [u8],
+    clock: u64,
+    key: &[u8],
+    value: &[u8],
+    order: Order,
+) -> Answer
+    requires { ⌜ sound (now dir) (now pool) ≡ true ⌝ }
+    requires { ⌜ Storable order (now key) (now value) ⌝ }
+    requires { ⌜ (order .most ≡ mostRounds op) × (order .told ≡ Done) ⌝ }
+    ensures { λ r. ⌜ Does (storeFound op clock (itemFrom order (now (key .entry)) (now (value .entry))) (order .removed) (memoryOf (now (dir .entry)) (now (pool .entry))) (lookUp clock (now (key .entry)) (memoryOf (now (dir .entry)) (now (pool .entry))))) (length (now (dir .entry))) r (now (dir .exit)) (now (pool .exit)) ⌝ }
+{
+    let found = memory::look_up(dir, pool, clock, key);
+    let admitted = admits(op, found);
+    if let Check::Refused(o) = admitted {
+        return Answer::plain(o, order.removed);
+    }
+    store_item(dir, pool, clock, key, value, order, found)
 }
