@@ -1,0 +1,109 @@
+//! What the calls that change entries share: the sweep, the overwrite in place, and the rounds that evict.
+
+use crate::answer::{outcome::NO_MEMORY, Answer};
+use crate::cells::{need, CellMap};
+use crate::directory::{count, entry, insert_in_front, move_to_front, remove, write, Entry};
+
+/// "at most 30 rounds"
+const MOST_ROUNDS: u64 = 30;
+/// "up to two dead entries from the long-unused end"
+const SWEEP: u64 = 2;
+
+/// An entry to be stored, all but its place.
+pub(crate) struct Item<'a> {
+    pub key: &'a [u8],
+    pub kind: u8,
+    pub value: &'a [u8],
+    pub flags: u32,
+    pub expiry: u64,
+}
+
+impl Item<'_> {
+    /// The record of this item at a start cell.
+    fn at(&self, start: u64) -> Entry {
+        Entry {
+            expiry: self.expiry,
+            kind: u64::from(self.kind),
+            flags: u64::from(self.flags),
+            start,
+            key_length: self.key.len() as u64,
+            value_length: self.value.len() as u64,
+        }
+    }
+}
+
+/// "Sweep. get, all stores, delete and incr first remove up to two dead entries from the long-unused end, stopping at
+/// the first live one." Gives how many it removed.
+pub(crate) fn sweep(dir: &mut [u64], cells: &mut CellMap, clock: u64) -> u64 {
+    let mut removed = 0;
+    while removed < SWEEP && last_is_dead(dir, clock) {
+        evict_last(dir, cells);
+        removed += 1;
+    }
+    removed
+}
+
+fn last_is_dead(dir: &[u64], clock: u64) -> bool {
+    match count(dir) {
+        0 => false,
+        count => entry(dir, count - 1).is_dead(clock),
+    }
+}
+
+fn evict_last(dir: &mut [u64], cells: &mut CellMap) {
+    let last = count(dir) - 1;
+    remove(dir, cells, last);
+}
+
+/// Stores an item: in place of the key's own entry if that has an equal value length, else anew.
+pub(crate) fn put(
+    dir: &mut [u64], pool: &mut [u8], cells: &mut CellMap, clock: u64, own: Option<usize>, item: &Item, safe: bool,
+) -> Answer {
+    if let Some(slot) = own {
+        let old = entry(dir, slot);
+        // "if the key has an entry (dead too) of equal value length, it is overwritten in place with new kind, flags,
+        // expiry and value, and moved to the front."
+        if old.value_length == item.value.len() as u64 {
+            write(dir, slot, &item.at(old.start));
+            pool[old.value()].copy_from_slice(item.value);
+            move_to_front(dir, slot);
+            return Answer::done();
+        }
+        // "With another length it is removed first."
+        remove(dir, cells, slot);
+    }
+    place(dir, pool, cells, clock, item, safe)
+}
+
+/// Places an item anew, with rounds of eviction unless the form is a safe one.
+fn place(dir: &mut [u64], pool: &mut [u8], cells: &mut CellMap, clock: u64, item: &Item, safe: bool) -> Answer {
+    let need = need(item.key.len() + item.value.len());
+    let mut answer = Answer::done();
+    loop {
+        // "Then the new entry takes the lowest start from which all the needed cells are free, and goes to the front."
+        if let Some(start) = cells.first_fit(need) {
+            let new = item.at(start as u64);
+            write_item(pool, &new, item);
+            insert_in_front(dir, cells, &new);
+            return answer;
+        }
+        // "If there is none, a safe form answers 12." For the others: "at most 30 rounds, ending when nothing is left
+        // to remove. A round that removes nothing isn't counted."
+        if safe || answer.rounds == MOST_ROUNDS || count(dir) == 0 {
+            answer.outcome = NO_MEMORY;
+            return answer;
+        }
+        // "remove the last entry whatever its state, then up to two dead ones as in the sweep, then look again"
+        evict_last(dir, cells);
+        answer.removed += 1 + sweep(dir, cells, clock);
+        answer.rounds += 1;
+        // "'Forced' is set if a round was run, also with 12."
+        answer.forced = true;
+    }
+}
+
+/// "Placing writes key and value only; the rest of the last cell stays."
+fn write_item(pool: &mut [u8], new: &Entry, item: &Item) {
+    pool[new.key()].copy_from_slice(item.key);
+    pool[new.value()].copy_from_slice(item.value);
+}

@@ -1,0 +1,17 @@
+//! The rules of document 01, tried by example. One module for each theme; the numbers of plates (P1 to P12) are those
+//! of 01, the points those of the list of open points.
+
+mod checks;
+mod equal_keys;
+mod incr;
+mod lengths;
+mod loss;
+mod plates;
+mod readers;
+mod replay;
+mod soundness;
+mod stores;
+mod sweep;
+mod time;
+mod upkeep;
+mod yard;
