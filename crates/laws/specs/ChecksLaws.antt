@@ -1,6 +1,6 @@
 -- Laws of the checks: one step each, for a code that makes them one by one.
 use mathlib.Core.Path.{_≡_, refl, sym, ap, _∙_}
-use mathlib.Core.Bool.{Bool, true, false, not, true≢false}
+use mathlib.Core.Bool.{Bool, true, false, not, cond, true≢false}
 use mathlib.Core.List.{List}
 use Prim.Native.Nat.{ℕ, zero, suc, _≤_, _<_}
 use native.Mathlib.Omega.{arith}
@@ -15,7 +15,7 @@ use Rattle.rules.specs.declared.Operation.{Operation}
 use Rattle.rules.specs.declared.Operation.the-variants.{Set, SafeSet, Add, SafeAdd, Replace}
 use Rattle.rules.specs.Time.{tooLate}
 use Rattle.rules.specs.Soundness.{any, sound}
-use Rattle.rules.specs.Checks.{passed, _then_, refuse, checkSound, checkClock, checkKey, checkKind, takesNil, checkNil, checkLifetime, clockChecks, keyChecks, expireChecks}
+use Rattle.rules.specs.Checks.{passed, _then_, refuse, checkSound, checkClock, checkKey, checkKind, takesNil, checkNil, checkLifetime, clockChecks, keyChecks, expireChecks, storeChecks}
 
 -- ---- checks in order
 
@@ -158,3 +158,34 @@ module _ (dir pool : List ℕ) (clock : ℕ) where
   pub expire-in-time : (key : List ℕ) (lifetime : ℕ) → Passed ≡ expireChecks dir pool clock key lifetime → tooLate clock lifetime ≡ false
   unfolding expireChecks checkLifetime
   expire-in-time key lifetime e = refused-not ExpiryTooLate (tooLate clock lifetime) (then-next (keyChecks dir pool clock key) (checkLifetime clock lifetime) e)
+
+-- what a store's checks say of its arguments
+pub record StorePassed (op : Operation) (dir pool : List ℕ) (clock : ℕ) (key : List ℕ) (kind lifetime : ℕ) : Type 0 where
+  pub is-sound : sound dir pool ≡ true
+  pub in-time : tooLate clock lifetime ≡ false
+  pub nil-taken-by : kind ≡ 0 → takesNil op ≡ true
+  pub kind-is : Passed ≡ checkKind kind
+
+nil-passed : (op : Operation) (kind : ℕ) → Passed ≡ checkNil op kind → kind ≡ 0 → takesNil op ≡ true
+unfolding checkNil
+nil-passed op kind e z = go (takesNil op) (refused-not NilRefused (cond (takesNil op) false (eqb kind 0)) e)
+  where
+    go : (b : Bool) → cond b false (eqb kind 0) ≡ false → b ≡ true
+    go true h = refl
+    go false h = absurd (true≢false (sym (eq-eqb kind 0 z) ∙ h))
+
+pub store-passed : (op : Operation) (dir pool : List ℕ) (clock : ℕ) (key : List ℕ) (kind lifetime : ℕ) → Passed ≡ storeChecks op dir pool clock key kind lifetime → StorePassed op dir pool clock key kind lifetime
+unfolding storeChecks checkLifetime
+store-passed op dir pool clock key kind lifetime e =
+    let c1 : Check = keyChecks dir pool clock key in
+    let c2 : Check = c1 then checkKind kind in
+    let c3 : Check = c2 then checkNil op kind in
+    let e3 : Passed ≡ c3 = then-first c3 (checkLifetime clock lifetime) e in
+    let e2 : Passed ≡ c2 = then-first c2 (checkNil op kind) e3 in
+    record {
+      is-sound = key-passed dir pool clock key (then-first c1 (checkKind kind) e2);
+      in-time = refused-not ExpiryTooLate (tooLate clock lifetime) (then-next c3 (checkLifetime clock lifetime) e);
+      nil-taken-by = nil-passed op kind (then-next c2 (checkNil op kind) e3);
+      kind-is = then-next c1 (checkKind kind) e2;
+    }
+

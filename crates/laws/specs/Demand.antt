@@ -1,4 +1,4 @@
--- Demand 3 again, from the laws of this crate: no equation of pools is used for what is removed, only that the entries that stay keep their bytes.
+-- Demand 3 holds of the calls' definitions. No equation of pools is used for what is removed, only that the entries that stay keep their bytes.
 use mathlib.Core.Path.{_≡_, refl, sym, ap, _∙_, subst}
 use mathlib.Core.Bool.{Bool, true, false}
 use mathlib.Core.List.{List, [], _∷_, _++_, reverse, reverse-cons, reverse-reverse}
@@ -17,7 +17,8 @@ use Rattle.rules.specs.declared.Check.the-variants.{Passed}
 use Rattle.rules.specs.declared.Found.{Found}
 use Rattle.rules.specs.declared.Found.the-variants.{Live, Dead, Missing}
 use Rattle.rules.specs.declared.Operation.{Operation}
-use Rattle.rules.specs.declared.Initial.the-variants.{Given}
+use Rattle.rules.specs.declared.Initial.{Initial}
+use Rattle.rules.specs.declared.Initial.the-variants.{Given, Absent}
 use Rattle.rules.specs.declared.Fit.{Fit}
 use Rattle.rules.specs.declared.Fit.the-variants.{Start, Nowhere}
 use Rattle.rules.specs.Layout.{cellsOf, needOf, none, memoryOf, put, Memory, remove, removeOldest}
@@ -33,7 +34,7 @@ use Rattle.laws.specs.SoundnessLaws.{Sound}
 use Rattle.rules.specs.Answer.{numberOf, fieldsOf}
 use Rattle.rules.specs.LookUp.{lookUp}
 use Rattle.rules.specs.Calls.{Work, call, afterSweep, itemOf, storeWork, storeCall, incrWork, incrCall, Item, entryFor, needFor, placeAt, searched, evicted, fitOutcome, placeFit, placedBy, placeAnew}
-use Rattle.rules.specs.LeastLoss.{notSafe, storeMustPlace, storePlacesAnew, incrMustPlace, incrPlacesAnew, LeastLossOf, Demand3, ownOut, restFor, lineFor, LeastLoss, Cheapest, Costs, Place}
+use Rattle.rules.specs.LeastLoss.{notSafe, storeMustPlace, storePlacesAnew, incrMustPlace, incrPlacesAnew, LeastLossOf, IncrLosesLeast, Demand3, ownOut, restFor, lineFor, LeastLoss, Cheapest, Costs, Place}
 use Rattle.laws.specs.LeastLossLaws.{passed-is, first-passed, keyed-sound, store-anew, incr-anew, cheapest, no-place, nothing-left, left-counted, after-rounds, stored-key, stored-value}
 use Rattle.laws.specs.Lists.{Each, nil, one, Pairs, none-yet, first, each-sub, each-map, each-with, each-all, each-at}
 use Rattle.laws.specs.Crowd.{Apart, Clear, held-none, clear-cells}
@@ -203,5 +204,10 @@ incrs dir pool clock key by number lifetime t =
     work-anew clock item (Sum (number +ℤ by)) dir pool c (incrWork clock key by (Given number lifetime)) refl p (s .0) (s .1)
     (incr-anew clock key by number lifetime (sweepCount clock (memoryOf dir pool)) m (lookUp clock key m) (and-right (passed c) b t))
 
+incrs-all : (dir pool : List ℕ) (clock : ℕ) (key : List ℕ) (by : ℤ) (initial : Initial) → IncrLosesLeast dir pool clock key by initial (incrCall dir pool clock key by initial)
+incrs-all dir pool clock key by Absent = tt
+incrs-all dir pool clock key by (Given number lifetime) = incrs dir pool clock key by number lifetime
+
+-- demand 3
 pub demand-3 : Demand3
-demand-3 = record { stores = stores; incrs = incrs }
+demand-3 = record { stores = stores; incrs = incrs-all }

@@ -3,3 +3,4 @@ pub mod Placing
 pub mod PlacingLaws
 pub mod Rewriting
 pub mod StoreLaws
+pub mod StoreCallLaws

@@ -6,9 +6,12 @@ ghost use lib.ListN.{length, getD};
 ghost use Rattle.rules.specs.Layout.{entriesOf, none, memoryOf};
 ghost use Rattle.rules.specs.LookUp.{lookUp};
 ghost use Rattle.rules.specs.Soundness.{sound};
-ghost use Rattle.rules.specs.Calls.{Holds, Does, rewriteAt, placeAt, placeAnew, storeItem, storeOver, admits, mostRounds, storeFound};
+ghost use Rattle.rules.specs.Calls.{Holds, Does, rewriteAt, placeAt, placeAnew, storeItem, storeOver, admits, mostRounds, storeFound, storeWork, itemOf, gave, storeCall};
+ghost use Rattle.rules.specs.Checks.{storeChecks};
+ghost use Rattle.rules.specs.LeastLoss.{StoreLosesLeast};
+ghost use Rattle.rules.specs.declared.Check.the-variants.{Passed};
 ghost use Rattle.rules.specs.declared.Outcome.the-variants.{Done};
-ghost use Rattle.rules.specs.declared.Operation.the-variants.{Add, Replace};
+ghost use Rattle.rules.specs.declared.Operation.the-variants.{Set, SafeSet, Add, SafeAdd, Replace};
 ghost use Rattle.storing.specs.Order.{itemFrom, Storable};
 ghost use Rattle.storing.specs.Placing.{Fits};
 use rules::Answer;
@@ -224,4 +227,168 @@ fn store_swept(
         return Answer::plain(o, order.removed);
     }
     store_item(dir, pool, clock, key, value, order, found)
+}
+
+// A store on a sound memory, past its checks: nil deletes, and any other value is stored by its kind.
+pub fn store_in(
+    op: Operation,
+    dir: &mut [u64],
+    pool: &mut [u8],
+    clock: u64,
+    key: &[u8],
+    kind: u8,
+    number: i64,
+    text: &[u8],
+    lifetime: u64,
+    flags: u32,
+) -> Answer
+    requires { ⌜ Passed ≡ storeChecks op (now dir) (now pool) clock (now key) kind lifetime ⌝ }
+    ensures { λ r. ⌜ Does (storeWork op clock (itemOf clock (now (key .entry)) kind number (now (text .entry)) lifetime flags) (memoryOf (now (dir .entry)) (now (pool .entry)))) (length (now (dir .entry))) r (now (dir .exit)) (now (pool .exit)) ⌝ }
+{
+    let removed = eviction::sweep(dir, pool, clock);
+    if kind == 0 {
+        return upkeep::delete_swept(dir, pool, clock, key, removed);
+    }
+    let order = Order {
+        expiry: time::expiry_of(clock, lifetime),
+        kind: kind as u64,
+        flags: flags as u64,
+        most: most_rounds(op),
+        told: Outcome::Done,
+        removed,
+    };
+    if kind == 4 {
+        return store_swept(op, dir, pool, clock, key, text, order);
+    }
+    if kind == 3 {
+        let bytes = values::number_bytes(number);
+        return store_swept(op, dir, pool, clock, key, &bytes[..], order);
+    }
+    let byte = [values::boolean_byte(number)];
+    store_swept(op, dir, pool, clock, key, &byte[..], order)
+}
+
+// A store: the checks, and then its work.
+pub fn store(
+    op: Operation,
+    dir: &mut [u64],
+    pool: &mut [u8],
+    clock: u64,
+    key: &[u8],
+    kind: u8,
+    number: i64,
+    text: &[u8],
+    lifetime: u64,
+    flags: u32,
+) -> Answer
+    ensures result { λ r. ⌜ gave r (now (dir .exit)) (now (pool .exit)) ≡ storeCall op (now (dir .entry)) (now (pool .entry)) clock (now (key .entry)) kind number (now (text .entry)) lifetime flags ⌝ }
+    ensures least_loss { λ r. ⌜ StoreLosesLeast op (now (dir .entry)) (now (pool .entry)) clock (now (key .entry)) kind number (now (text .entry)) lifetime flags (gave r (now (dir .exit)) (now (pool .exit))) ⌝ }
+{
+    let check = checks::of_store(op, dir, pool, clock, key, kind, lifetime);
+    if let Check::Refused(o) = check {
+        return Answer::plain(o, 0);
+    }
+    store_in(
+        op, dir, pool, clock, key, kind, number, text, lifetime, flags,
+    )
+}
+
+// set: stores a value under a key, over an entry of that key or anew; nil deletes. Where there is no place it runs rounds, up to 30.
+pub fn set(
+    dir: &mut [u64],
+    pool: &mut [u8],
+    clock: u64,
+    key: &[u8],
+    kind: u8,
+    number: i64,
+    text: &[u8],
+    lifetime: u64,
+    flags: u32,
+) -> Answer
+    ensures result { λ r. ⌜ gave r (now (dir .exit)) (now (pool .exit)) ≡ storeCall Set (now (dir .entry)) (now (pool .entry)) clock (now (key .entry)) kind number (now (text .entry)) lifetime flags ⌝ }
+    ensures least_loss { λ r. ⌜ StoreLosesLeast Set (now (dir .entry)) (now (pool .entry)) clock (now (key .entry)) kind number (now (text .entry)) lifetime flags (gave r (now (dir .exit)) (now (pool .exit))) ⌝ }
+{
+    store(
+        Operation::Set, dir, pool, clock, key, kind, number, text, lifetime, flags,
+    )
+}
+
+// safe_set: as set, but runs no rounds: without a free place it answers 12.
+pub fn safe_set(
+    dir: &mut [u64],
+    pool: &mut [u8],
+    clock: u64,
+    key: &[u8],
+    kind: u8,
+    number: i64,
+    text: &[u8],
+    lifetime: u64,
+    flags: u32,
+) -> Answer
+    ensures result { λ r. ⌜ gave r (now (dir .exit)) (now (pool .exit)) ≡ storeCall SafeSet (now (dir .entry)) (now (pool .entry)) clock (now (key .entry)) kind number (now (text .entry)) lifetime flags ⌝ }
+    ensures least_loss { λ r. ⌜ StoreLosesLeast SafeSet (now (dir .entry)) (now (pool .entry)) clock (now (key .entry)) kind number (now (text .entry)) lifetime flags (gave r (now (dir .exit)) (now (pool .exit))) ⌝ }
+{
+    store(
+        Operation::SafeSet, dir, pool, clock, key, kind, number, text, lifetime, flags,
+    )
+}
+
+// add: as set, but a live entry under the key gives 9, and nil 6.
+pub fn add(
+    dir: &mut [u64],
+    pool: &mut [u8],
+    clock: u64,
+    key: &[u8],
+    kind: u8,
+    number: i64,
+    text: &[u8],
+    lifetime: u64,
+    flags: u32,
+) -> Answer
+    ensures result { λ r. ⌜ gave r (now (dir .exit)) (now (pool .exit)) ≡ storeCall Add (now (dir .entry)) (now (pool .entry)) clock (now (key .entry)) kind number (now (text .entry)) lifetime flags ⌝ }
+    ensures least_loss { λ r. ⌜ StoreLosesLeast Add (now (dir .entry)) (now (pool .entry)) clock (now (key .entry)) kind number (now (text .entry)) lifetime flags (gave r (now (dir .exit)) (now (pool .exit))) ⌝ }
+{
+    store(
+        Operation::Add, dir, pool, clock, key, kind, number, text, lifetime, flags,
+    )
+}
+
+// safe_add: as add, but runs no rounds.
+pub fn safe_add(
+    dir: &mut [u64],
+    pool: &mut [u8],
+    clock: u64,
+    key: &[u8],
+    kind: u8,
+    number: i64,
+    text: &[u8],
+    lifetime: u64,
+    flags: u32,
+) -> Answer
+    ensures result { λ r. ⌜ gave r (now (dir .exit)) (now (pool .exit)) ≡ storeCall SafeAdd (now (dir .entry)) (now (pool .entry)) clock (now (key .entry)) kind number (now (text .entry)) lifetime flags ⌝ }
+    ensures least_loss { λ r. ⌜ StoreLosesLeast SafeAdd (now (dir .entry)) (now (pool .entry)) clock (now (key .entry)) kind number (now (text .entry)) lifetime flags (gave r (now (dir .exit)) (now (pool .exit))) ⌝ }
+{
+    store(
+        Operation::SafeAdd, dir, pool, clock, key, kind, number, text, lifetime, flags,
+    )
+}
+
+// replace: as set, but a missing or dead entry gives 8, and nil 6.
+pub fn replace(
+    dir: &mut [u64],
+    pool: &mut [u8],
+    clock: u64,
+    key: &[u8],
+    kind: u8,
+    number: i64,
+    text: &[u8],
+    lifetime: u64,
+    flags: u32,
+) -> Answer
+    ensures result { λ r. ⌜ gave r (now (dir .exit)) (now (pool .exit)) ≡ storeCall Replace (now (dir .entry)) (now (pool .entry)) clock (now (key .entry)) kind number (now (text .entry)) lifetime flags ⌝ }
+    ensures least_loss { λ r. ⌜ StoreLosesLeast Replace (now (dir .entry)) (now (pool .entry)) clock (now (key .entry)) kind number (now (text .entry)) lifetime flags (gave r (now (dir .exit)) (now (pool .exit))) ⌝ }
+{
+    store(
+        Operation::Replace, dir, pool, clock, key, kind, number, text, lifetime, flags,
+    )
 }
