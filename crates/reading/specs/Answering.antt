@@ -16,23 +16,7 @@ use Rattle.rules.specs.LookUp.{lookUp}
 use Rattle.rules.specs.Answer.{plain, marked}
 use Rattle.rules.specs.Calls.{Work, Does, did, shown, getFound, staleFound, ttlFound}
 use Rattle.laws.specs.Buffers.{holds-itself}
-use Rattle.reading.specs.Meant.{NoLive}
-
--- ---- no live entry
-
-get-not : (removed : ℕ) (m : Memory) (f : Found) → NoLive f → getFound removed m f ≡ did NotFound removed m
-unfolding getFound
-get-not removed m (Live i) n = absurd (n i refl)
-get-not removed m (Dead i) n = refl
-get-not removed m Missing n = refl
-
-ttl-not : (clock : ℕ) (m : Memory) (f : Found) → NoLive f → ttlFound clock m f ≡ plain NotFound 0
-unfolding ttlFound
-ttl-not clock m (Live i) n = absurd (n i refl)
-ttl-not clock m (Dead i) n = refl
-ttl-not clock m Missing n = refl
-
--- ---- over the buffers
+use Rattle.reading.specs.Meant.{NoLive, else-is}
 
 module _ (clock : ℕ) (dir pool key : List ℕ) (f : Found) (e : f ≡ lookUp clock key (memoryOf dir pool)) where
   abbrev m : Memory
@@ -40,12 +24,14 @@ module _ (clock : ℕ) (dir pool key : List ℕ) (f : Found) (e : f ≡ lookUp c
 
   -- get: "else 8", and only the sweep has changed anything
   pub get-nothing : (removed : ℕ) (a : Answer) → NoLive f → Dir dir → a ≡ plain NotFound removed → Does (getFound removed m (lookUp clock key m)) (length dir) a dir pool
+  unfolding getFound
   get-nothing removed a n d h =
-      subst (λ (w : Work). Does w (length dir) a dir pool) (sym (get-not removed m f n) ∙ ap (getFound removed m) e)
+      subst (λ (w : Work). Does w (length dir) a dir pool) (else-is (getFound removed m) (did NotFound removed m) (λ i. refl) refl f n ∙ ap (getFound removed m) e)
       (record { answer = h; memory = holds-itself dir pool d })
 
   pub ttl-nothing : (a : Answer) → NoLive f → a ≡ plain NotFound 0 → a ≡ ttlFound clock m (lookUp clock key m)
-  ttl-nothing a n h = h ∙ sym (ttl-not clock m f n) ∙ ap (ttlFound clock m) e
+  unfolding ttlFound
+  ttl-nothing a n h = h ∙ else-is (ttlFound clock m) (plain NotFound 0) (λ i. refl) refl f n ∙ ap (ttlFound clock m) e
 
   pub stale-nothing : (a : Answer) → f ≡ Missing → a ≡ plain NotFound 0 → a ≡ staleFound m (lookUp clock key m)
   unfolding staleFound

@@ -20,7 +20,7 @@ use Rattle.rules.specs.Checks.{keyChecks}
 use Rattle.rules.specs.Calls.{bytesStart, bytesAtCall, textFound, showFound, textOr, showCall}
 use Rattle.laws.specs.ChecksLaws.{key-passed}
 use Rattle.laws.specs.Buffers.{entry-inside}
-use Rattle.reading.specs.Meant.{NoLive, there-live}
+use Rattle.reading.specs.Meant.{NoLive, else-is, there-live}
 
 -- ---- bytes_at: the bytes, and where they stand for a pool that begins at `origin`
 
@@ -50,12 +50,6 @@ module _ (clock : ℕ) (key : List ℕ) (m : Memory) where
   unfolding showFound
   text-passed c e = ap (λ (x : Check). showFound x clock key m) (sym e)
 
-  text-not : (f : Found) → NoLive f → Missing ≡ textFound m f
-  unfolding textFound
-  text-not (Live i) n = absurd (n i refl)
-  text-not (Dead i) n = refl
-  text-not Missing n = refl
-
   -- back from a text to the checks and the look-up
   of-text : (i : ℕ) (f : Found) → textFound m f ≡ Live i → f ≡ Live i
   unfolding textFound
@@ -74,7 +68,9 @@ module _ (clock : ℕ) (key : List ℕ) (m : Memory) where
 
 module _ (clock : ℕ) (dir pool key : List ℕ) (c : Check) (p : c ≡ Passed) (f : Found) (e : f ≡ lookUp clock key (memoryOf dir pool)) where
   pub text-nothing : NoLive f → Missing ≡ showFound c clock key (memoryOf dir pool)
-  text-nothing n = text-not clock key (memoryOf dir pool) f n ∙ ap (textFound (memoryOf dir pool)) e ∙ text-passed clock key (memoryOf dir pool) c p
+  unfolding textFound
+  text-nothing n =
+      else-is (textFound (memoryOf dir pool)) Missing (λ i. refl) refl f n ∙ ap (textFound (memoryOf dir pool)) e ∙ text-passed clock key (memoryOf dir pool) c p
 
   module _ (i : ℕ) (x : Entry) (r : x ≡ getD (entriesOf dir) i none) (q : f ≡ Live i) where
     by-kind : textFound (memoryOf dir pool) (Live i) ≡ showFound c clock key (memoryOf dir pool)
@@ -100,18 +96,6 @@ unfoldable pub showStart : List ℕ → List ℕ → ℕ → List ℕ → ℕ ×
 showStart dir pool clock key origin notice =
     lentFrom origin notice (memoryOf dir pool) (showFound (keyChecks dir pool clock key) clock key (memoryOf dir pool))
 
-bytes-not : (notice : List ℕ) (m : Memory) (f : Found) → NoLive f → notice ≡ textOr notice m f
-unfolding textOr
-bytes-not notice m (Live i) n = absurd (n i refl)
-bytes-not notice m (Dead i) n = refl
-bytes-not notice m Missing n = refl
-
-from-not : (origin notice : ℕ × ℕ) (m : Memory) (f : Found) → NoLive f → notice ≡ lentFrom origin notice m f
-unfolding lentFrom
-from-not origin notice m (Live i) n = absurd (n i refl)
-from-not origin notice m (Dead i) n = refl
-from-not origin notice m Missing n = refl
-
 module _ (clock : ℕ) (dir pool key : List ℕ) (f : Found) (e : f ≡ showFound (keyChecks dir pool clock key) clock key (memoryOf dir pool)) where
   module _ (i : ℕ) (q : f ≡ Live i) where
     told : (Passed ≡ keyChecks dir pool clock key) × (lookUp clock key (memoryOf dir pool) ≡ Live i)
@@ -128,10 +112,10 @@ module _ (clock : ℕ) (dir pool key : List ℕ) (f : Found) (e : f ≡ showFoun
 
   module _ (notice : List ℕ) (origin at : ℕ × ℕ) where
     pub show-notice : NoLive f → (notice ≡ showCall dir pool clock key notice) × (at ≡ showStart dir pool clock key origin at)
-    unfolding showCall showStart
+    unfolding showCall showStart textOr lentFrom
     show-notice n = (
-      bytes-not notice (memoryOf dir pool) f n ∙ ap (textOr notice (memoryOf dir pool)) e,
-      from-not origin at (memoryOf dir pool) f n ∙ ap (lentFrom origin at (memoryOf dir pool)) e,
+      else-is (textOr notice (memoryOf dir pool)) notice (λ i. refl) refl f n ∙ ap (textOr notice (memoryOf dir pool)) e,
+      else-is (lentFrom origin at (memoryOf dir pool)) at (λ i. refl) refl f n ∙ ap (lentFrom origin at (memoryOf dir pool)) e,
     )
 
     pub show-text : (i : ℕ) → f ≡ Live i → (x : Entry) → x ≡ getD (entriesOf dir) i none → (part pool (valueOffset x) (valueOffset x + x .vlen - valueOffset x) ≡ showCall dir pool clock key notice) × (_≡_ {A = ℕ × ℕ} (origin .0, valueOffset x + origin .1) (showStart dir pool clock key origin at))

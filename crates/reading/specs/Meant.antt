@@ -6,6 +6,8 @@ use mathlib.Core.Logic.{_⊎_, ⊎-elim}
 use Prim.Native.Nat.{ℕ, suc, _+_, _-_, _≤_, _<_}
 use native.Mathlib.Omega.{arith}
 use lib.ListN.{length, getD}
+use denote.Enum.Declared.{tagOf}
+use Rattle.rules.proofs.Found.{the-type}
 use Rattle.rules.specs.declared.Entry.{Entry}
 use Rattle.rules.specs.declared.Found.{Found}
 use Rattle.rules.specs.declared.Found.the-variants.{Live, Dead, Missing}
@@ -19,9 +21,15 @@ use Rattle.laws.specs.Finding.{Finds, finds}
 abbrev pub NoLive : Found → Type 0
 NoLive f = (i : ℕ) → f ≡ Live i → ⊥
 
--- what the else branch of a `let Found::Live(i) = ..` knows: the place of the variant is not the first
-pub no-live : (place : Found → ℕ) → ((i : ℕ) → place (Live i) ≡ 0) → (f : Found) → (place f ≡ 1) ⊎ (place f ≡ 2) → NoLive f
-no-live place z f h i e = ⊎-elim (λ p. omega (arith, ap place e, z i)) (λ p. omega (arith, ap place e, z i)) h
+-- what the else branch of a `let Found::Live(i) = ..` knows
+pub no-live : (f : Found) → (tagOf the-type f ≡ 1) ⊎ (tagOf the-type f ≡ 2) → NoLive f
+no-live f h i e = ⊎-elim (λ p. omega (arith, ap (tagOf the-type) e)) (λ p. omega (arith, ap (tagOf the-type) e)) h
+
+-- what is the same for a dead entry and for none
+pub else-is : {A : Type 0} (g : Found → A) (y : A) → ((i : ℕ) → y ≡ g (Dead i)) → y ≡ g Missing → (f : Found) → NoLive f → y ≡ g f
+else-is g y d m (Live i) n = absurd (n i refl)
+else-is g y d m (Dead i) n = d i
+else-is g y d m Missing n = m
 
 -- ---- a live entry is not dead
 

@@ -1,7 +1,7 @@
 -- `reading::bytes_at` meets its contract.
-use Rattle.reading.specs.Lent.{lent-none, lent-part}
 use native.Mathlib.Omega.{arith}
 use borrow.Author.Needs.{needs}
+use Rattle.reading.specs.Lent.{lent-none, lent-part}
 use Rattle.reading.proofs.bytes_at.Statement.{statement}
 use Rattle.reading.proofs.bytes_at.Tie as tie
 

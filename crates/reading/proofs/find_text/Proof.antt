@@ -1,12 +1,10 @@
 -- `reading::find_text` meets its contract.
-use denote.Enum.Declared.{tagOf}
-use Rattle.rules.proofs.Found.{the-type}
+use mathlib.Core.Path.{sym, _∙_}
+use borrow.Author.Needs.{needs}
 use Rattle.laws.specs.ChecksLaws.{key-passed}
 use Rattle.laws.specs.Buffers.{given-sound}
 use Rattle.reading.specs.Meant.{no-live, there-live}
 use Rattle.reading.specs.Lent.{text-refused, text-nothing, text-here, text-other}
-use mathlib.Core.Path.{refl, sym, _∙_}
-use borrow.Author.Needs.{needs}
 use Rattle.reading.proofs.find_text.Statement.{statement}
 use Rattle.reading.proofs.find_text.Tie as tie
 
@@ -29,7 +27,7 @@ enum-known-found : tie.Need-enum-known-found
 enum-known-found c = search needs
 
 returns-2 : tie.Need-returns-2
-returns-2 c = text-nothing _ _ _ _ _ (sym (c .before .before .before .before .of-key .ensures) ∙ c .before .before .enum-told2 .given .1) _ (c .before .look-up .ensures) (no-live (tagOf the-type) (λ i. refl) _ (c .match2 .keys2))
+returns-2 c = text-nothing _ _ _ _ _ (sym (c .before .before .before .before .of-key .ensures) ∙ c .before .before .enum-told2 .given .1) _ (c .before .look-up .ensures) (no-live _ (c .match2 .keys2))
 
 record-at-requires : tie.Need-record-at-requires
 record-at-requires c κs = (given-sound _ _ (key-passed _ _ _ _ (sym (c .before .before .before .before .enum-told2 .given .1) ∙ c .before .before .before .before .before .before .of-key .ensures)) .dir-is, there-live _ _ _ _ _ (c .before .before .before .look-up .ensures) _ (c .before .found .given .1))

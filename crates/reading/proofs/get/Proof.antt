@@ -1,9 +1,9 @@
 -- `reading::get` meets its contract.
+use mathlib.Core.Path.{sym, _∙_}
+use borrow.Author.Needs.{needs}
 use Rattle.rules.specs.Calls.{getCall}
 use Rattle.laws.specs.ChecksLaws.{key-passed}
 use Rattle.laws.specs.CallsLaws.{gave-refused, gave-passed}
-use mathlib.Core.Path.{sym, _∙_}
-use borrow.Author.Needs.{needs}
 use Rattle.reading.proofs.get.Statement.{statement}
 use Rattle.reading.proofs.get.Tie as tie
 

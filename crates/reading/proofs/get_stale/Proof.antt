@@ -1,9 +1,9 @@
 -- `reading::get_stale` meets its contract.
+use mathlib.Core.Path.{sym, _∙_}
+use borrow.Author.Needs.{needs}
 use Rattle.rules.specs.Calls.{getStaleCall}
 use Rattle.laws.specs.ChecksLaws.{key-passed}
 use Rattle.laws.specs.CallsLaws.{ask-refused, ask-passed}
-use mathlib.Core.Path.{sym, _∙_}
-use borrow.Author.Needs.{needs}
 use Rattle.reading.proofs.get_stale.Statement.{statement}
 use Rattle.reading.proofs.get_stale.Tie as tie
 

@@ -1,9 +1,9 @@
 -- `reading::get_stale_in` meets its contract.
+use borrow.Author.Needs.{needs}
 use Rattle.laws.specs.Buffers.{given-sound}
 use Rattle.reading.specs.Readable.{readable}
 use Rattle.reading.specs.Meant.{there-live, there-dead}
 use Rattle.reading.specs.Answering.{stale-live, stale-dead, stale-nothing}
-use borrow.Author.Needs.{needs}
 use Rattle.reading.proofs.get_stale_in.Statement.{statement}
 use Rattle.reading.proofs.get_stale_in.Tie as tie
 

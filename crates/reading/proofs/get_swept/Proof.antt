@@ -1,12 +1,9 @@
 -- `reading::get_swept` meets its contract.
-use denote.Enum.Declared.{tagOf}
-use Rattle.rules.proofs.Found.{the-type}
+use borrow.Author.Needs.{needs}
 use Rattle.laws.specs.Buffers.{given-sound}
 use Rattle.reading.specs.Readable.{readable}
 use Rattle.reading.specs.Meant.{no-live, there-live}
 use Rattle.reading.specs.Answering.{get-nothing, get-live}
-use mathlib.Core.Path.{refl}
-use borrow.Author.Needs.{needs}
 use Rattle.reading.proofs.get_swept.Statement.{statement}
 use Rattle.reading.proofs.get_swept.Tie as tie
 
@@ -23,7 +20,7 @@ same-length : tie.Need-same-length
 same-length c = search needs
 
 returns : tie.Need-returns
-returns c = get-nothing _ _ _ _ _ (c .before .before .look-up .ensures) _ _ (no-live (tagOf the-type) (λ i. refl) _ (c .before .match .keys2)) (given-sound _ _ (c .before .before .before .before .before .before .before .pre) .dir-is) (c .plain .ensures)
+returns c = get-nothing _ _ _ _ _ (c .before .before .look-up .ensures) _ _ (no-live _ (c .before .match .keys2)) (given-sound _ _ (c .before .before .before .before .before .before .before .pre) .dir-is) (c .plain .ensures)
 
 record-at-requires : tie.Need-record-at-requires
 record-at-requires c κs = (given-sound _ _ (c .before .before .before .before .before .before .before .before .before .pre) .dir-is, there-live _ _ _ _ _ (c .before .before .before .before .look-up .ensures) _ (c .before .before .found .given .1))

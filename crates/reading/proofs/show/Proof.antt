@@ -1,12 +1,9 @@
 -- `reading::show` meets its contract.
-use Rattle.reading.specs.Lent.{show-inside, show-notice, show-sound, show-there, show-text}
-use denote.Enum.Declared.{tagOf}
-use Rattle.rules.proofs.Found.{the-type}
-use Rattle.laws.specs.Buffers.{given-sound}
-use Rattle.reading.specs.Meant.{no-live}
-use mathlib.Core.Path.{refl}
 use native.Mathlib.Omega.{arith}
 use borrow.Author.Needs.{needs}
+use Rattle.laws.specs.Buffers.{given-sound}
+use Rattle.reading.specs.Lent.{show-inside, show-notice, show-sound, show-there, show-text}
+use Rattle.reading.specs.Meant.{no-live}
 use Rattle.reading.proofs.show.Statement.{statement}
 use Rattle.reading.proofs.show.Tie as tie
 
@@ -17,7 +14,7 @@ enum-known-found : tie.Need-enum-known-found
 enum-known-found c = search needs
 
 returns : tie.Need-returns
-returns c = show-notice _ _ _ _ _ (c .before .find-text .ensures) _ _ _ (no-live (tagOf the-type) (λ i. refl) _ (c .match .keys2))
+returns c = show-notice _ _ _ _ _ (c .before .find-text .ensures) _ _ _ (no-live _ (c .match .keys2))
 
 record-at-requires : tie.Need-record-at-requires
 record-at-requires c κs = (given-sound _ _ (show-sound _ _ _ _ _ (c .before .before .before .find-text .ensures) _ (c .before .found .given .1)) .dir-is, show-there _ _ _ _ _ (c .before .before .before .find-text .ensures) _ (c .before .found .given .1))

@@ -1,7 +1,7 @@
 -- `reading::shown` meets its contract.
+use borrow.Author.Needs.{needs}
 use Rattle.values.specs.Bits.{held-is}
 use Rattle.reading.specs.Readable.{boolean-inside, number-inside, shown-boolean, shown-number, shown-text}
-use borrow.Author.Needs.{needs}
 use Rattle.reading.proofs.shown.Statement.{statement}
 use Rattle.reading.proofs.shown.Tie as tie
 

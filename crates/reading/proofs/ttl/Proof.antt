@@ -1,9 +1,9 @@
 -- `reading::ttl` meets its contract.
+use mathlib.Core.Path.{sym, _∙_}
+use borrow.Author.Needs.{needs}
 use Rattle.rules.specs.Calls.{ttlCall}
 use Rattle.laws.specs.ChecksLaws.{key-passed}
 use Rattle.laws.specs.CallsLaws.{ask-refused, ask-passed}
-use mathlib.Core.Path.{sym, _∙_}
-use borrow.Author.Needs.{needs}
 use Rattle.reading.proofs.ttl.Statement.{statement}
 use Rattle.reading.proofs.ttl.Tie as tie
 

@@ -1,11 +1,8 @@
 -- `reading::ttl_in` meets its contract.
-use denote.Enum.Declared.{tagOf}
-use Rattle.rules.proofs.Found.{the-type}
+use borrow.Author.Needs.{needs}
 use Rattle.laws.specs.Buffers.{given-sound}
 use Rattle.reading.specs.Meant.{no-live, there-live, not-dead}
 use Rattle.reading.specs.Answering.{ttl-nothing, ttl-live}
-use mathlib.Core.Path.{refl}
-use borrow.Author.Needs.{needs}
 use Rattle.reading.proofs.ttl_in.Statement.{statement}
 use Rattle.reading.proofs.ttl_in.Tie as tie
 
@@ -19,7 +16,7 @@ plain-requires : tie.Need-plain-requires
 plain-requires c κs = search needs
 
 returns : tie.Need-returns
-returns c = ttl-nothing _ _ _ _ _ (c .before .before .look-up .ensures) _ (no-live (tagOf the-type) (λ i. refl) _ (c .before .match .keys2)) (c .plain .ensures)
+returns c = ttl-nothing _ _ _ _ _ (c .before .before .look-up .ensures) _ (no-live _ (c .before .match .keys2)) (c .plain .ensures)
 
 record-at-requires : tie.Need-record-at-requires
 record-at-requires c κs = (given-sound _ _ (c .before .before .before .before .before .before .before .pre) .dir-is, there-live _ _ _ _ _ (c .before .before .before .look-up .ensures) _ (c .before .found .given .1))
