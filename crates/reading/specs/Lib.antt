@@ -1,1 +1,5 @@
 pub mod Readable
+pub mod Meant
+pub mod AfterSweep
+pub mod Answering
+pub mod Lent

@@ -8,6 +8,7 @@ ghost use Rattle.rules.specs.LookUp.{lookUp};
 ghost use Rattle.rules.specs.Soundness.{sound};
 ghost use Rattle.rules.specs.Checks.{keyChecks};
 ghost use Rattle.rules.specs.Calls.{Does, gave, shown, getFound, getWork, getCall, staleFound, getStaleCall, ttlFound, ttlCall, bytesStart, bytesAtCall, showFound, showCall};
+ghost use Rattle.reading.specs.Lent.{showStart};
 ghost use Rattle.reading.specs.Readable.{Readable};
 use rules::Answer;
 use rules::Check;
@@ -166,6 +167,7 @@ fn find_text(dir: &[u64], pool: &[u8], clock: u64, key: &[u8]) -> Found
 // show: the live text under the key, lent out of the pool, or else the caller's own notice. Nothing changes.
 pub fn show<'a>(dir: &[u64], pool: &'a [u8], clock: u64, key: &[u8], notice: &'a [u8]) -> &'a [u8]
     ensures { λ r. ⌜ now r ≡ showCall (now (dir .entry)) (now (pool .entry)) clock (now (key .entry)) (now (notice .entry)) ⌝ }
+    ensures { λ r. ⌜ r .ptr ≡ showStart (now (dir .entry)) (now (pool .entry)) clock (now (key .entry)) (pool .entry .ptr) (notice .entry .ptr) ⌝ }
 {
     let found = find_text(dir, pool, clock, key);
     let Found::Live(i) = found else {
