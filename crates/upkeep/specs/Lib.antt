@@ -1,0 +1,3 @@
+pub mod Culling
+pub mod Dropping
+pub mod Works

@@ -1,17 +1,34 @@
 // Upkeep: delete, expire, flush_all and flush_expired. A name that ends in `_in` is for a caller whose memory is known to be sound.
 ghost use mathlib.Core.Path.{_≡_};
 ghost use mathlib.Core.Bool.{true, false};
+ghost use Prim.Native.Nat.{_≤_};
 ghost use lib.ListN.{length};
-ghost use Rattle.rules.specs.Layout.{memoryOf};
+ghost use Rattle.rules.specs.Layout.{entriesOf, memoryOf};
 ghost use Rattle.rules.specs.Time.{expiryOf, tooLate};
 ghost use Rattle.rules.specs.LookUp.{lookUp};
 ghost use Rattle.rules.specs.Soundness.{sound};
-ghost use Rattle.rules.specs.Calls.{Does, gave, deleteFound, deleteWork, deleteCall, expireFound, expireCall, flushAllWork, flushAllCall, flushExpiredWork, flushExpiredCall};
+ghost use Rattle.rules.specs.Calls.{Holds, Does, gave, deleteFound, deleteWork, deleteCall, expireFound, expireCall, flushAllWork, flushAllCall, upTo, flushExpiredWork, flushExpiredCall};
+ghost use Rattle.upkeep.specs.Works.{removeFound};
+ghost use Rattle.upkeep.specs.Culling.{GoFrom};
+ghost use Rattle.upkeep.specs.Dropping.{Dropped};
 use rules::Answer;
 use rules::Check;
 use rules::Entry;
 use rules::Found;
 use rules::Outcome;
+
+// Takes out the entry that the key means, live or dead, if there is one.
+fn remove_under(dir: &mut [u64], pool: &mut [u8], clock: u64, key: &[u8])
+    requires { ⌜ sound (now dir) (now pool) ≡ true ⌝ }
+    ensures { λ _. ⌜ Holds (length (now (dir .entry))) (removeFound (memoryOf (now (dir .entry)) (now (pool .entry))) (lookUp clock (now (key .entry)) (memoryOf (now (dir .entry)) (now (pool .entry))))) (now (dir .exit)) (now (pool .exit)) ⌝ }
+{
+    let found = memory::look_up(dir, pool, clock, key);
+    match found {
+        Found::Live(i) => memory::remove(dir, pool, i),
+        Found::Dead(i) => memory::remove(dir, pool, i),
+        Found::Missing => {}
+    }
+}
 
 // delete behind its sweep: the entry under the key goes, live or dead.
 pub fn delete_swept(
@@ -24,12 +41,7 @@ pub fn delete_swept(
     requires { ⌜ sound (now dir) (now pool) ≡ true ⌝ }
     ensures { λ r. ⌜ Does (deleteFound removed (memoryOf (now (dir .entry)) (now (pool .entry))) (lookUp clock (now (key .entry)) (memoryOf (now (dir .entry)) (now (pool .entry))))) (length (now (dir .entry))) r (now (dir .exit)) (now (pool .exit)) ⌝ }
 {
-    let found = memory::look_up(dir, pool, clock, key);
-    match found {
-        Found::Live(i) => memory::remove(dir, pool, i),
-        Found::Dead(i) => memory::remove(dir, pool, i),
-        Found::Missing => {}
-    }
+    remove_under(dir, pool, clock, key);
     Answer::plain(Outcome::Done, removed)
 }
 
@@ -104,6 +116,74 @@ pub fn flush_all(dir: &mut [u64], pool: &[u8]) -> Answer
         return Answer::plain(Outcome::NotSound, 0);
     }
     flush_all_in(dir, pool)
+}
+
+// How many dead entries go at most: the maximum, 0 for all.
+fn most_to_go(maximum: u64, n: usize) -> usize
+    ensures { λ r. ⌜ r ≡ upTo maximum n ⌝ }
+{
+    if maximum == 0 {
+        return n;
+    }
+    if (n as u64) < maximum {
+        return n;
+    }
+    maximum as usize
+}
+
+// The first of the entries that go, so many at most: every dead one from there on goes. The number of entries if none goes.
+fn first_to_go(dir: &[u64], pool: &[u8], clock: u64, most: usize) -> usize
+    requires { ⌜ sound (now dir) (now pool) ≡ true ⌝ }
+    ensures { λ r. ⌜ GoFrom clock most (memoryOf (now (dir .entry)) (now (pool .entry))) r ⌝ }
+{
+    let mut i = directory::count(dir);
+    let mut first = i;
+    let mut left = most;
+    while 0 < i {
+        if left == 0 {
+            return first;
+        }
+        i -= 1;
+        if time::is_dead(directory::record_at(dir, i), clock) {
+            first = i;
+            left -= 1;
+        }
+    }
+    first
+}
+
+// Takes every dead entry from `first` on out; the live ones behind it move down, each once. Answers how many entries are left.
+fn drop_dead(dir: &mut [u64], pool: &mut [u8], clock: u64, first: usize) -> usize
+    requires { ⌜ sound (now dir) (now pool) ≡ true ⌝ }
+    requires { ⌜ first ≤ length (entriesOf (now dir)) ⌝ }
+    ensures { λ r. ⌜ Dropped clock first (now (dir .entry)) (now (pool .entry)) r (now (dir .exit)) (now (pool .exit)) ⌝ }
+{
+    let n = directory::count(dir);
+    let mut kept = first;
+    let mut i = first;
+    while i < n {
+        let e = directory::record_at(dir, i);
+        i += 1;
+        if time::is_dead(e, clock) {
+            continue; // e leaves: what becomes of its cells is decided here
+        }
+        directory::replace_at(dir, kept, e);
+        kept += 1;
+    }
+    directory::truncate(dir, kept);
+    kept
+}
+
+// flush_expired on a sound memory: one pass finds what goes, and one moves the others down.
+pub fn flush_expired_in(dir: &mut [u64], pool: &mut [u8], clock: u64, maximum: u64) -> Answer
+    requires { ⌜ sound (now dir) (now pool) ≡ true ⌝ }
+    ensures { λ r. ⌜ Does (flushExpiredWork clock maximum (memoryOf (now (dir .entry)) (now (pool .entry)))) (length (now (dir .entry))) r (now (dir .exit)) (now (pool .exit)) ⌝ }
+{
+    let n = directory::count(dir);
+    let most = most_to_go(maximum, n);
+    let first = first_to_go(dir, pool, clock, most);
+    let kept = drop_dead(dir, pool, clock, first);
+    Answer::plain(Outcome::Done, n - kept)
 }
 
 // flush_expired: dead entries go, longest unused first, up to a maximum (0 for all); removed tells how many.
