@@ -188,4 +188,3 @@ store-passed op dir pool clock key kind lifetime e =
       nil-taken-by = nil-passed op kind (then-next c2 (checkNil op kind) e3);
       kind-is = then-next c1 (checkKind kind) e2;
     }
-

@@ -388,6 +388,10 @@ pub record Listing : Type 0 where
   pub answer : Answer
   pub rows : List Row
 
+-- a listing that gave this answer and left these rows
+abbrev pub listing : Answer → List Row → Listing
+listing answer rows = record { answer = answer; rows = rows }
+
 -- "Later rows stay"
 unfoldable pub listed : ℕ → ℕ → List Row → Memory → Listing
 listed clock maximum rows m =
@@ -407,10 +411,25 @@ unfoldable pub rowWords : List Row → List ℕ
 rowWords [] = []
 rowWords (r ∷ rs) = r .start ∷ r .klen ∷ r .kind ∷ rowWords rs
 
-unfoldable pub listedFlat : ℕ → ℕ → List ℕ → Memory → List ℕ
+-- the answer, and the numbers after
+pub record FlatListing : Type 0 where
+  pub answer : Answer
+  pub table : List ℕ
+
+abbrev pub flatListing : Answer → List ℕ → FlatListing
+flatListing answer table = record { answer = answer; table = table }
+
+unfoldable pub listedFlat : ℕ → ℕ → List ℕ → Memory → FlatListing
 listedFlat clock maximum table m =
     let n : ℕ = keyCount clock maximum (length table / 3) m in
-    rowWords (keyRows clock n m) ++ drop (3 * n) table
+    record { answer = plain (Count n) 0; table = rowWords (keyRows clock n m) ++ drop (3 * n) table }
+
+unfoldable pub flatKeysOf : Check → ℕ → ℕ → List ℕ → Memory → FlatListing
+flatKeysOf (Refused o) clock maximum table m = record { answer = plain o 0; table = table }
+flatKeysOf Passed clock maximum table m = listedFlat clock maximum table m
+
+unfoldable pub getKeysFlatCall : List ℕ → List ℕ → ℕ → ℕ → List ℕ → FlatListing
+getKeysFlatCall dir pool clock maximum table = flatKeysOf (clockChecks dir pool clock) clock maximum table (memoryOf dir pool)
 
 -- ---- bytes-at, show
 

@@ -4,3 +4,4 @@ pub mod PlacingLaws
 pub mod Rewriting
 pub mod StoreLaws
 pub mod StoreCallLaws
+pub mod Losing

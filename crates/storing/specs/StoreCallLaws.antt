@@ -1,8 +1,8 @@
 -- A store from its arguments: the order made of them, and the work behind the sweep.
-use mathlib.Core.Path.{_≡_, refl, sym, ap, subst, _∙_}
-use mathlib.Core.Bool.{true, false, true≢false}
+use mathlib.Core.Path.{_≡_, refl, sym, ap, subst}
+use mathlib.Core.Bool.{Bool, true, false, true≢false}
 use mathlib.Core.List.{List, [], _∷_}
-use Prim.Native.Nat.{ℕ, _^_, _≤_, _<_}
+use Prim.Native.Nat.{ℕ, _≤_}
 use native.Mathlib.Omega.{arith}
 use lib.ListN.{length}
 use lib.IntN.{ℤ}
@@ -16,12 +16,13 @@ use Rattle.rules.specs.Layout.{numberBytes, Memory, memoryOf}
 use Rattle.rules.specs.Time.{expiryOf}
 use Rattle.rules.specs.LookUp.{lookUp}
 use Rattle.rules.specs.Recency.{line, sweepCount}
-use Rattle.rules.specs.Soundness.{sound}
-use Rattle.rules.specs.Checks.{takesNil, storeChecks}
-use Rattle.rules.specs.Calls.{Work, Does, Item, booleanByte, valueGiven, itemOf, mostRounds, admits, deleteFound, storeAdmitted, storeFound, storeWork}
+use Rattle.rules.specs.Soundness.{any, sound}
+use lib.Dec.{eqb}
+use borrow.Author.Tests.{eqb-true, ne-eqb}
+use Rattle.rules.specs.Checks.{passed, refuse, checkKind, takesNil}
+use Rattle.rules.specs.Calls.{Does, Item, booleanByte, valueGiven, itemOf, mostRounds, admits, deleteFound, storeAdmitted, storeFound, storeWork}
 use Rattle.laws.specs.RecencyLaws.{deads-few}
 use Rattle.laws.specs.Bytes.{FineItem}
-use Rattle.laws.specs.Carry.{store-fine}
 use Rattle.laws.specs.CallsLaws.{swept-does}
 use Rattle.laws.specs.Buffers.{does-is, does-behind, step-length, swept-sound}
 use Rattle.eviction.specs.Swept.{Swept}
@@ -108,3 +109,12 @@ number-given kind number text bytes e b = rw e b
 pub boolean-given : (kind : ℕ) (number : ℤ) (text : List ℕ) (byte : ℕ) → kind ≡ 1 → byte ≡ booleanByte number → byte ∷ [] ≡ valueGiven kind number text
 unfolding valueGiven
 boolean-given kind number text byte e b = rw e (ap (λ (x : ℕ). x ∷ []) b)
+
+-- a known kind that is none of the others is 1
+pub boolean-kind : (kind : ℕ) → Passed ≡ checkKind kind → (kind ≡ 0 → ⊥) → (kind ≡ 4 → ⊥) → (kind ≡ 3 → ⊥) → kind ≡ 1
+unfolding checkKind refuse any
+boolean-kind kind e z f n = go (eqb kind 1) refl
+  where
+    go : (b : Bool) → eqb kind 1 ≡ b → kind ≡ 1
+    go true t = eqb-true kind 1 t
+    go false t = absurd (true≢false (ap passed (rw (ne-eqb kind 0 z, t, ne-eqb kind 3 n, ne-eqb kind 4 f) at e)))

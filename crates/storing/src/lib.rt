@@ -289,7 +289,16 @@ pub fn store(
         return Answer::plain(o, 0);
     }
     store_in(
-        op, dir, pool, clock, key, kind, number, text, lifetime, flags,
+        op,
+        dir,
+        pool,
+        clock,
+        key,
+        kind,
+        number,
+        text,
+        lifetime,
+        flags,
     )
 }
 
@@ -309,7 +318,16 @@ pub fn set(
     ensures least_loss { λ r. ⌜ StoreLosesLeast Set (now (dir .entry)) (now (pool .entry)) clock (now (key .entry)) kind number (now (text .entry)) lifetime flags (gave r (now (dir .exit)) (now (pool .exit))) ⌝ }
 {
     store(
-        Operation::Set, dir, pool, clock, key, kind, number, text, lifetime, flags,
+        Operation::Set,
+        dir,
+        pool,
+        clock,
+        key,
+        kind,
+        number,
+        text,
+        lifetime,
+        flags,
     )
 }
 
@@ -329,7 +347,16 @@ pub fn safe_set(
     ensures least_loss { λ r. ⌜ StoreLosesLeast SafeSet (now (dir .entry)) (now (pool .entry)) clock (now (key .entry)) kind number (now (text .entry)) lifetime flags (gave r (now (dir .exit)) (now (pool .exit))) ⌝ }
 {
     store(
-        Operation::SafeSet, dir, pool, clock, key, kind, number, text, lifetime, flags,
+        Operation::SafeSet,
+        dir,
+        pool,
+        clock,
+        key,
+        kind,
+        number,
+        text,
+        lifetime,
+        flags,
     )
 }
 
@@ -349,7 +376,16 @@ pub fn add(
     ensures least_loss { λ r. ⌜ StoreLosesLeast Add (now (dir .entry)) (now (pool .entry)) clock (now (key .entry)) kind number (now (text .entry)) lifetime flags (gave r (now (dir .exit)) (now (pool .exit))) ⌝ }
 {
     store(
-        Operation::Add, dir, pool, clock, key, kind, number, text, lifetime, flags,
+        Operation::Add,
+        dir,
+        pool,
+        clock,
+        key,
+        kind,
+        number,
+        text,
+        lifetime,
+        flags,
     )
 }
 
@@ -369,7 +405,16 @@ pub fn safe_add(
     ensures least_loss { λ r. ⌜ StoreLosesLeast SafeAdd (now (dir .entry)) (now (pool .entry)) clock (now (key .entry)) kind number (now (text .entry)) lifetime flags (gave r (now (dir .exit)) (now (pool .exit))) ⌝ }
 {
     store(
-        Operation::SafeAdd, dir, pool, clock, key, kind, number, text, lifetime, flags,
+        Operation::SafeAdd,
+        dir,
+        pool,
+        clock,
+        key,
+        kind,
+        number,
+        text,
+        lifetime,
+        flags,
     )
 }
 
@@ -389,6 +434,15 @@ pub fn replace(
     ensures least_loss { λ r. ⌜ StoreLosesLeast Replace (now (dir .entry)) (now (pool .entry)) clock (now (key .entry)) kind number (now (text .entry)) lifetime flags (gave r (now (dir .exit)) (now (pool .exit))) ⌝ }
 {
     store(
-        Operation::Replace, dir, pool, clock, key, kind, number, text, lifetime, flags,
+        Operation::Replace,
+        dir,
+        pool,
+        clock,
+        key,
+        kind,
+        number,
+        text,
+        lifetime,
+        flags,
     )
 }
