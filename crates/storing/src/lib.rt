@@ -34,7 +34,7 @@ pub struct Order {
 }
 
 // Writes another value of the same length into the entry at i, whose record becomes e and goes to the front.
-fn rewrite_at(dir: &mut [u64], pool: &mut [u8], i: usize, e: Entry, value: &[u8])
+pub fn rewrite_at(dir: &mut [u64], pool: &mut [u8], i: usize, e: Entry, value: &[u8])
     requires { ⌜ sound (now dir) (now pool) ≡ true ⌝ }
     requires { ⌜ i < length (entriesOf (now dir)) ⌝ }
     requires { ⌜ length (now value) ≡ getD (entriesOf (now dir)) i none .vlen ⌝ }
@@ -139,7 +139,7 @@ fn store_over(
 }
 
 // Stores a value under a key, of which the look-up has found what it found.
-fn store_item(
+pub fn store_item(
     dir: &mut [u64],
     pool: &mut [u8],
     clock: u64,
