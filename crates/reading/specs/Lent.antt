@@ -20,6 +20,7 @@ use Rattle.rules.specs.Checks.{keyChecks}
 use Rattle.rules.specs.Calls.{bytesStart, bytesAtCall, textFound, showFound, textOr, showCall}
 use Rattle.laws.specs.ChecksLaws.{key-passed}
 use Rattle.laws.specs.Buffers.{entry-inside}
+use Rattle.reading.specs.Origin.{lentFrom, showStart}
 use Rattle.reading.specs.Meant.{NoLive, else-is, there-live}
 
 -- ---- bytes_at: the bytes, and where they stand for a pool that begins at `origin`
@@ -85,16 +86,6 @@ module _ (clock : ℕ) (dir pool key : List ℕ) (c : Check) (p : c ≡ Passed) 
     text-other k = sym (simp (ne-eqb (getD (entriesOf dir) i none .kind) 4 (λ h. k (ap (λ (y : Entry). y .kind) r ∙ h)))) ∙ by-kind
 
 -- ---- show: the slice
-
--- where it begins, for a pool and a notice that begin there
-unfoldable pub lentFrom : ℕ × ℕ → ℕ × ℕ → Memory → Found → ℕ × ℕ
-lentFrom pool notice m (Live i) = (pool .0, valueOffset (entryIn m i) + pool .1)
-lentFrom pool notice m (Dead i) = notice
-lentFrom pool notice m Missing = notice
-
-unfoldable pub showStart : List ℕ → List ℕ → ℕ → List ℕ → ℕ × ℕ → ℕ × ℕ → ℕ × ℕ
-showStart dir pool clock key origin notice =
-    lentFrom origin notice (memoryOf dir pool) (showFound (keyChecks dir pool clock key) clock key (memoryOf dir pool))
 
 module _ (clock : ℕ) (dir pool key : List ℕ) (f : Found) (e : f ≡ showFound (keyChecks dir pool clock key) clock key (memoryOf dir pool)) where
   module _ (i : ℕ) (q : f ≡ Live i) where

@@ -1,4 +1,5 @@
 pub mod Readable
+pub mod Origin
 pub mod Meant
 pub mod AfterSweep
 pub mod Answering

@@ -1,15 +1,15 @@
 // The readers: get, get_stale, ttl, bytes_at and show. A name that ends in `_in` is for a caller whose memory is known to be sound.
 ghost use mathlib.Core.Path.{_≡_};
 ghost use mathlib.Core.Bool.{true};
-ghost use Prim.Native.Nat.{_+_, _≤_, _<_};
+ghost use Prim.Native.Nat.{_+_};
 ghost use lib.ListN.{length};
 ghost use Rattle.rules.specs.Layout.{memoryOf};
 ghost use Rattle.rules.specs.LookUp.{lookUp};
 ghost use Rattle.rules.specs.Soundness.{sound};
 ghost use Rattle.rules.specs.Checks.{keyChecks};
 ghost use Rattle.rules.specs.Calls.{Does, gave, shown, getFound, getWork, getCall, staleFound, getStaleCall, ttlFound, ttlCall, bytesStart, bytesAtCall, showFound, showCall};
-ghost use Rattle.reading.specs.Lent.{showStart};
 ghost use Rattle.reading.specs.Readable.{Readable};
+ghost use Rattle.reading.specs.Origin.{showStart};
 use rules::Answer;
 use rules::Check;
 use rules::Entry;
@@ -75,7 +75,7 @@ pub fn get(dir: &mut [u64], pool: &mut [u8], clock: u64, key: &[u8]) -> Answer
 {
     let check = checks::of_key(dir, pool, clock, key);
     if let Check::Refused(o) = check {
-        return Answer::plain(o, 0);
+        return Answer::plain(o, 0); // before the sweep
     }
     get_in(dir, pool, clock, key)
 }
@@ -109,7 +109,7 @@ pub fn ttl_in(dir: &[u64], pool: &[u8], clock: u64, key: &[u8]) -> Answer
     requires { ⌜ sound (now dir) (now pool) ≡ true ⌝ }
     ensures { λ r. ⌜ r ≡ ttlFound clock (memoryOf (now (dir .entry)) (now (pool .entry))) (lookUp clock (now (key .entry)) (memoryOf (now (dir .entry)) (now (pool .entry)))) ⌝ }
 {
-    let found = memory::look_up(dir, pool, clock, key);
+    let found = memory::look_up(dir, pool, clock, key); // live or dead by this clock
     let Found::Live(i) = found else {
         return Answer::plain(Outcome::NotFound, 0);
     };
@@ -153,7 +153,7 @@ fn find_text(dir: &[u64], pool: &[u8], clock: u64, key: &[u8]) -> Found
     if let Check::Refused(_) = check {
         return Found::Missing;
     }
-    let found = memory::look_up(dir, pool, clock, key);
+    let found = memory::look_up(dir, pool, clock, key); // no sweep: nothing changes
     let Found::Live(i) = found else {
         return Found::Missing;
     };

@@ -1,4 +1,5 @@
 -- `reading::get_swept` meets its contract.
+use native.Mathlib.Omega.{arith}
 use borrow.Author.Needs.{needs}
 use Rattle.laws.specs.Buffers.{given-sound}
 use Rattle.reading.specs.Readable.{readable}
@@ -29,7 +30,7 @@ shown-requires : tie.Need-shown-requires
 shown-requires c κs = readable _ _ (c .before .before .before .before .before .before .before .before .before .before .pre) _ (there-live _ _ _ _ _ (c .before .before .before .before .before .look-up .ensures) _ (c .before .before .before .found .given .1)) _ (c .record-at .ensures)
 
 put-front-requires : tie.Need-put-front-requires
-put-front-requires c κs = (given-sound _ _ (c .before .before .before .before .before .before .before .before .before .before .before .before .pre) .dir-is, there-live _ _ _ _ _ (c .before .before .before .before .before .before .before .look-up .ensures) _ (c .before .before .before .before .before .found .given .1))
+put-front-requires c κs = (given-sound _ _ (c .before .before .before .before .before .before .before .before .before .before .before .before .pre) .dir-is, omega (arith, there-live _ _ _ _ _ (c .before .before .before .before .before .before .before .look-up .ensures) _ (c .before .before .before .before .before .found .given .1)))
 
 plain-requires-2 : tie.Need-plain-requires-2
 plain-requires-2 c κs = search needs
