@@ -9,8 +9,6 @@ use lib.IntN.{ℤ, _+ℤ_}
 use Rattle.rules.specs.declared.Outcome.the-variants.{NotNumber}
 use Rattle.rules.specs.declared.Initial.{Initial}
 use Rattle.rules.specs.declared.Initial.the-variants.{Given, Absent}
-use Rattle.rules.specs.declared.Found.{Found}
-use Rattle.rules.specs.declared.Found.the-variants.{Live, Dead, Missing}
 use Rattle.rules.specs.Layout.{Memory, entryIn, numberAt}
 use Rattle.rules.specs.Time.{tooLate}
 use Rattle.rules.specs.Calls.{Work, did, incrLive}

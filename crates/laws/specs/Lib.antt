@@ -15,6 +15,7 @@ pub mod Crowd
 pub mod SoundMemory
 pub mod Bytes
 pub mod Finding
+pub mod Meant
 pub mod Blocks
 pub mod Kept
 pub mod Keys

@@ -16,7 +16,7 @@ use Rattle.rules.specs.LookUp.{lookUp}
 use Rattle.rules.specs.Answer.{plain, marked}
 use Rattle.rules.specs.Calls.{Work, Does, did, shown, getFound, staleFound, ttlFound}
 use Rattle.laws.specs.Buffers.{holds-itself}
-use Rattle.reading.specs.Meant.{NoLive, else-is}
+use Rattle.laws.specs.Meant.{NoLive, else-is}
 
 module _ (clock : ℕ) (dir pool key : List ℕ) (f : Found) (e : f ≡ lookUp clock key (memoryOf dir pool)) where
   abbrev m : Memory

@@ -21,7 +21,7 @@ use Rattle.rules.specs.Calls.{bytesStart, bytesAtCall, textFound, showFound, te
 use Rattle.laws.specs.ChecksLaws.{key-passed}
 use Rattle.laws.specs.Buffers.{entry-inside}
 use Rattle.reading.specs.Origin.{lentFrom, showStart}
-use Rattle.reading.specs.Meant.{NoLive, else-is, there-live}
+use Rattle.laws.specs.Meant.{NoLive, else-is, live-there}
 
 -- ---- bytes_at: the bytes, and where they stand for a pool that begins at `origin`
 
@@ -96,7 +96,7 @@ module _ (clock : ℕ) (dir pool key : List ℕ) (f : Found) (e : f ≡ showFoun
     show-sound = key-passed dir pool clock key (told .0)
 
     pub show-there : i < length (entriesOf dir)
-    show-there = there-live clock dir pool key (lookUp clock key (memoryOf dir pool)) refl i (told .1)
+    show-there = live-there clock dir pool key (lookUp clock key (memoryOf dir pool)) refl i (told .1)
 
     pub show-inside : (x : Entry) → x ≡ getD (entriesOf dir) i none → valueOffset x + x .vlen ≤ length pool
     show-inside x r = entry-inside dir pool show-sound i show-there x r

@@ -23,9 +23,8 @@ use Rattle.rules.specs.Checks.{passed, refuse, checkKind, takesNil}
 use Rattle.rules.specs.Calls.{Does, Item, booleanByte, valueGiven, itemOf, mostRounds, admits, deleteFound, storeAdmitted, storeFound, storeWork}
 use Rattle.laws.specs.RecencyLaws.{deads-few}
 use Rattle.laws.specs.Bytes.{FineItem}
-use Rattle.laws.specs.CallsLaws.{swept-does}
-use Rattle.laws.specs.Buffers.{does-is, does-behind, step-length, swept-sound}
-use Rattle.eviction.specs.Swept.{Swept}
+use Rattle.laws.specs.Buffers.{does-is}
+use Rattle.eviction.specs.Swept.{Swept, behind-sweep}
 use Rattle.storing.specs.declared.Order.{Order}
 use Rattle.storing.specs.Order.{itemFrom, Storable}
 
@@ -74,8 +73,7 @@ module _ (op : Operation) (clock kind : ℕ) (number : ℤ) (text : List ℕ) (l
     ordered-does dir pool t {dir₁} {pool₁} s d =
         let item : Item = itemOf clock key kind number text lifetime flags in
         let same : storeFound op clock (itemFrom o key value) (o .removed) (memoryOf dir₁ pool₁) (lookUp clock key (memoryOf dir₁ pool₁)) ≡ storeFound op clock item swept (memoryOf dir₁ pool₁) (lookUp clock key (memoryOf dir₁ pool₁)) = rw (item-is, h .of-removed) in
-        swept-does clock (λ n m. storeFound op clock item n m (lookUp clock key m)) (memoryOf dir pool) (s .count)
-        (does-behind (λ m. storeFound op clock item swept m (lookUp clock key m)) (s .memory) (step-length dir pool t (swept-sound dir pool t clock) (s .memory)) (does-is same d))
+        behind-sweep clock dir pool t s (λ n m. storeFound op clock item n m (lookUp clock key m)) (does-is same d)
 
 -- ---- nil
 
@@ -92,9 +90,8 @@ pub nil-does : (op : Operation) (clock : ℕ) (key : List ℕ) (kind : ℕ) (num
 unfolding storeWork itemOf
 nil-does op clock key kind number text lifetime flags dir pool t z n {swept} {dir₁} {pool₁} s d =
     let item : Item = itemOf clock key kind number text lifetime flags in
-    swept-does clock (λ k m. storeFound op clock item k m (lookUp clock key m)) (memoryOf dir pool) (s .count)
-    (does-behind (λ m. storeFound op clock item swept m (lookUp clock key m)) (s .memory) (step-length dir pool t (swept-sound dir pool t clock) (s .memory))
-    (does-is (nil-found op clock item swept (memoryOf dir₁ pool₁) (lookUp clock key (memoryOf dir₁ pool₁)) z n) d))
+    behind-sweep clock dir pool t s (λ k m. storeFound op clock item k m (lookUp clock key m))
+    (does-is (nil-found op clock item swept (memoryOf dir₁ pool₁) (lookUp clock key (memoryOf dir₁ pool₁)) z n) d)
 
 -- ---- values by their kinds
 

@@ -2,7 +2,7 @@
 use mathlib.Core.Path.{_≡_, refl, sym, ap, subst, _∙_}
 use mathlib.Core.Bool.{Bool, true, false, cond}
 use mathlib.Core.List.{List}
-use Prim.Native.Nat.{ℕ, _<_}
+use Prim.Native.Nat.{ℕ}
 use lib.Dec.{eqb}
 use lib.ListN.{length, getD}
 use borrow.Author.Tests.{eq-eqb, ne-eqb}
@@ -17,12 +17,10 @@ use Rattle.rules.specs.declared.Found.the-variants.{Live, Dead, Missing}
 use Rattle.rules.specs.declared.Operation.{Operation}
 use Rattle.rules.specs.declared.Operation.the-variants.{Add, SafeAdd}
 use Rattle.rules.specs.Layout.{entriesOf, none, Dir, Memory, memoryOf, remove}
-use Rattle.rules.specs.LookUp.{lookUp}
 use Rattle.rules.specs.Soundness.{sound}
 use Rattle.rules.specs.Answer.{plain}
 use Rattle.rules.specs.Calls.{Holds, Work, did, Does, Item, entryFor, rewriteAt, overwriteAt, placeAnew, storeOver, storeItem, mostRounds, admits, storeAdmitted, storeFound}
 use Rattle.laws.specs.Bytes.{fitsKind, FineItem}
-use Rattle.laws.specs.Finding.{live-within, dead-within}
 use Rattle.laws.specs.Booleans.{no-bool}
 use Rattle.laws.specs.Buffers.{does-is, does-behind, holds-itself, step-length, removed-sound}
 
@@ -50,15 +48,6 @@ module _ (dir pool : List ℕ) (clock most : ℕ) (item : Item) (told : Outcome)
       (record { answer = q; memory = subst (λ (f : Entry). Holds (length dir) (rewriteAt i (entryFor item (f .start)) (item .value) (memoryOf dir pool)) dir₁ pool₁) x h })
 
 -- ---- over what was found
-
-module _ (dir pool key : List ℕ) (clock : ℕ) (found : Found) (x : found ≡ lookUp clock key (memoryOf dir pool)) (i : ℕ) where
-  pub live-there : found ≡ Live i → i < length (entriesOf dir)
-  unfolding memoryOf
-  live-there e = live-within clock key (memoryOf dir pool) i (sym x ∙ e)
-
-  pub dead-there : found ≡ Dead i → i < length (entriesOf dir)
-  unfolding memoryOf
-  dead-there e = dead-within clock key (memoryOf dir pool) i (sym x ∙ e)
 
 module _ (clock most : ℕ) (item : Item) (told : Outcome) (swept : ℕ) (m : Memory) (found : Found) {n : ℕ} {a : Answer} {dir pool : List ℕ} where
   pub item-live : (i : ℕ) → found ≡ Live i → Does (storeOver most clock item told swept m i) n a dir pool → Does (storeItem most clock item told swept m found) n a dir pool

@@ -1,17 +1,9 @@
 -- `counting::incr` meets its contract.
-use mathlib.Core.Path.{_≡_, refl, sym, ap, _∙_}
-use mathlib.Core.List.{List, [], _∷_, _++_}
-use Prim.Native.Nat.{ℕ, zero, suc, _+_, _-_, _*_, _≤_, _<_}
-use native.Mathlib.Omega.{arith}
-use lib.ListN.{length, take, drop, getD, set, length-set}
+use mathlib.Core.Path.{sym, _∙_}
+use Rattle.counting.specs.CountingLaws.{incr-refused, incr-done}
 use borrow.Author.Needs.{needs}
 use Rattle.counting.proofs.incr.Statement.{statement}
 use Rattle.counting.proofs.incr.Tie as tie
-use Rattle.counting.proofs.incr.Reads as reads
-use Rattle.counting.proofs.incr.Lts as lts
-use Rattle.checks.proofs.of_incr.Reads as of-incr-reads
-use Rattle.counting.proofs.incr_in.Reads as incr-in-reads
-use Rattle.rules.proofs.Answer.plain.Reads as plain-reads
 
 of-incr-requires : tie.Need-of-incr-requires
 of-incr-requires c κs = search needs
@@ -29,13 +21,13 @@ same-length-2 : tie.Need-same-length-2
 same-length-2 c = search needs
 
 returns : tie.Need-returns
-returns c = omega arith
+returns c = incr-refused _ _ _ _ _ _ _ _ _ (c .before .before .before .before .of-incr .ensures) (c .before .before .check .given .1) (c .plain .ensures)
 
 enum-told : tie.Need-enum-told
 enum-told c = search needs
 
 incr-in-requires : tie.Need-incr-in-requires
-incr-in-requires c κs = omega arith
+incr-in-requires c κs = sym (c .before .before .enum-told .given .1) ∙ c .before .before .before .before .of-incr .ensures
 
 same-length-3 : tie.Need-same-length-3
 same-length-3 c = search needs
@@ -44,7 +36,7 @@ same-length-4 : tie.Need-same-length-4
 same-length-4 c = search needs
 
 returns-2 : tie.Need-returns-2
-returns-2 c = omega arith
+returns-2 c = incr-done _ _ _ _ _ _ _ _ _ (c .before .before .before .before .before .before .before .before .before .before .before .before .before .before .before .fits .step) (sym (c .before .before .before .before .before .before .before .enum-told .given .1) ∙ c .before .before .before .before .before .before .before .before .before .of-incr .ensures) (c .before .before .before .before .incr-in .ensures)
 
 pub incr-spec : {M : Type 1} → statement M
 incr-spec =

@@ -1,22 +1,18 @@
 -- `counting::incr_in` meets its contract.
-use mathlib.Core.Path.{_≡_, refl, sym, ap, _∙_}
-use mathlib.Core.List.{List, [], _∷_, _++_}
-use Prim.Native.Nat.{ℕ, zero, suc, _+_, _-_, _*_, _≤_, _<_}
-use native.Mathlib.Omega.{arith}
-use lib.ListN.{length, take, drop, getD, set, length-set}
+use Rattle.counting.specs.CountingLaws.{step-held-found, incr-sound, countable}
+use Rattle.rules.specs.Calls.{incrWork, incrFound}
+use Rattle.rules.specs.LookUp.{lookUp}
+use Rattle.eviction.specs.Swept.{still-sound, behind-sweep}
+use Rattle.storing.specs.StoreCallLaws.{swept-two}
 use borrow.Author.Needs.{needs}
 use Rattle.counting.proofs.incr_in.Statement.{statement}
 use Rattle.counting.proofs.incr_in.Tie as tie
-use Rattle.counting.proofs.incr_in.Reads as reads
-use Rattle.counting.proofs.incr_in.Lts as lts
-use Rattle.counting.proofs.incr_swept.Reads as incr-swept-reads
-use Rattle.eviction.proofs.sweep.Reads as sweep-reads
 
 sweep-requires : tie.Need-sweep-requires
-sweep-requires c κs = omega arith
+sweep-requires c κs = incr-sound _ _ _ _ _ (c .before .before .before .before .before .pre)
 
 incr-swept-requires : tie.Need-incr-swept-requires
-incr-swept-requires c κs = omega arith
+incr-swept-requires c κs = (still-sound _ _ _ (incr-sound _ _ _ _ _ (c .before .before .before .before .before .before .before .before .before .before .before .before .pre)) (c .before .before .before .before .before .before .sweep .ensures), countable _ _ _ _ _ (c .before .before .before .before .before .before .before .before .before .before .before .before .pre) _ (swept-two _ _ _ (c .before .before .before .before .before .before .sweep .ensures .count)))
 
 same-length : tie.Need-same-length
 same-length c = search needs
@@ -25,7 +21,8 @@ same-length-2 : tie.Need-same-length-2
 same-length-2 c = search needs
 
 returns : tie.Need-returns
-returns c = omega arith
+unfolding incrWork
+returns c = behind-sweep _ _ _ (incr-sound _ _ _ _ _ (c .before .before .before .before .before .before .before .before .before .before .before .before .before .before .before .before .before .pre)) (c .before .before .before .before .before .before .before .before .before .before .before .sweep .ensures) (λ removed m. incrFound (c .before .before .before .before .before .before .before .before .before .before .before .before .before .before .before .before .before .args .clock) (c .before .before .before .before .before .before .before .before .before .before .before .before .before .before .before .before .before .args .key .now) (c .before .before .before .before .before .before .before .before .before .before .before .before .before .before .before .before .before .args .step) (c .before .before .before .before .before .before .before .before .before .before .before .before .before .before .before .before .before .args .initial) removed m (lookUp (c .before .before .before .before .before .before .before .before .before .before .before .before .before .before .before .before .before .args .clock) (c .before .before .before .before .before .before .before .before .before .before .before .before .before .before .before .before .before .args .key .now) m)) (step-held-found _ _ _ _ _ _ _ (c .before .before .before .before .before .before .before .before .before .before .before .before .before .before .before .before .before .fits .step) (c .before .before .before .before .incr-swept .ensures))
 
 pub incr-in-spec : {M : Type 1} → statement M
 incr-in-spec =

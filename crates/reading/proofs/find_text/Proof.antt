@@ -3,7 +3,7 @@ use mathlib.Core.Path.{sym, _∙_}
 use borrow.Author.Needs.{needs}
 use Rattle.laws.specs.ChecksLaws.{key-passed}
 use Rattle.laws.specs.Buffers.{given-sound}
-use Rattle.reading.specs.Meant.{no-live, there-live}
+use Rattle.laws.specs.Meant.{no-live, live-there}
 use Rattle.reading.specs.Lent.{text-refused, text-nothing, text-here, text-other}
 use Rattle.reading.proofs.find_text.Statement.{statement}
 use Rattle.reading.proofs.find_text.Tie as tie
@@ -30,7 +30,7 @@ returns-2 : tie.Need-returns-2
 returns-2 c = text-nothing _ _ _ _ _ (sym (c .before .before .before .before .of-key .ensures) ∙ c .before .before .enum-told2 .given .1) _ (c .before .look-up .ensures) (no-live _ (c .match2 .keys2))
 
 record-at-requires : tie.Need-record-at-requires
-record-at-requires c κs = (given-sound _ _ (key-passed _ _ _ _ (sym (c .before .before .before .before .enum-told2 .given .1) ∙ c .before .before .before .before .before .before .of-key .ensures)) .dir-is, there-live _ _ _ _ _ (c .before .before .before .look-up .ensures) _ (c .before .found .given .1))
+record-at-requires c κs = (given-sound _ _ (key-passed _ _ _ _ (sym (c .before .before .before .before .enum-told2 .given .1) ∙ c .before .before .before .before .before .before .of-key .ensures)) .dir-is, live-there _ _ _ _ _ (c .before .before .before .look-up .ensures) _ (c .before .found .given .1))
 
 returns-3 : tie.Need-returns-3
 returns-3 c = text-here _ _ _ _ _ (sym (c .before .before .before .before .before .before .before .before .before .of-key .ensures) ∙ c .before .before .before .before .before .before .before .enum-told2 .given .1) _ (c .before .before .before .before .before .before .look-up .ensures) _ _ (c .before .before .record-at .ensures) (c .before .before .before .before .found .given .1) (c .if1 .taken)

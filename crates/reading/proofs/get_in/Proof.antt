@@ -1,7 +1,7 @@
 -- `reading::get_in` meets its contract.
 use borrow.Author.Needs.{needs}
 use Rattle.rules.specs.Calls.{getWork}
-use Rattle.reading.specs.AfterSweep.{still-sound, behind-sweep}
+use Rattle.eviction.specs.Swept.{still-sound, behind-sweep}
 use Rattle.reading.proofs.get_in.Statement.{statement}
 use Rattle.reading.proofs.get_in.Tie as tie
 

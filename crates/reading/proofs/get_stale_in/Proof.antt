@@ -2,7 +2,7 @@
 use borrow.Author.Needs.{needs}
 use Rattle.laws.specs.Buffers.{given-sound}
 use Rattle.reading.specs.Readable.{readable}
-use Rattle.reading.specs.Meant.{there-live, there-dead}
+use Rattle.laws.specs.Meant.{live-there, dead-there}
 use Rattle.reading.specs.Answering.{stale-live, stale-dead, stale-nothing}
 use Rattle.reading.proofs.get_stale_in.Statement.{statement}
 use Rattle.reading.proofs.get_stale_in.Tie as tie
@@ -14,10 +14,10 @@ enum-known-found : tie.Need-enum-known-found
 enum-known-found c = search needs
 
 record-at-requires : tie.Need-record-at-requires
-record-at-requires c κs = (given-sound _ _ (c .before .before .before .before .before .before .before .pre) .dir-is, there-live _ _ _ _ _ (c .before .before .before .look-up .ensures) _ (c .before .found .given .1))
+record-at-requires c κs = (given-sound _ _ (c .before .before .before .before .before .before .before .pre) .dir-is, live-there _ _ _ _ _ (c .before .before .before .look-up .ensures) _ (c .before .found .given .1))
 
 shown-requires : tie.Need-shown-requires
-shown-requires c κs = readable _ _ (c .before .before .before .before .before .before .before .before .pre) _ (there-live _ _ _ _ _ (c .before .before .before .before .look-up .ensures) _ (c .before .before .found .given .1)) _ (c .record-at .ensures)
+shown-requires c κs = readable _ _ (c .before .before .before .before .before .before .before .before .pre) _ (live-there _ _ _ _ _ (c .before .before .before .before .look-up .ensures) _ (c .before .before .found .given .1)) _ (c .record-at .ensures)
 
 marked-requires : tie.Need-marked-requires
 marked-requires c κs = search needs
@@ -26,10 +26,10 @@ enum-known-found-2 : tie.Need-enum-known-found-2
 enum-known-found-2 c = search needs
 
 record-at-requires-2 : tie.Need-record-at-requires-2
-record-at-requires-2 c κs = (given-sound _ _ (c .before .before .before .before .before .before .before .pre) .dir-is, there-dead _ _ _ _ _ (c .before .before .before .look-up .ensures) _ (c .before .found2 .given .1))
+record-at-requires-2 c κs = (given-sound _ _ (c .before .before .before .before .before .before .before .pre) .dir-is, dead-there _ _ _ _ _ (c .before .before .before .look-up .ensures) _ (c .before .found2 .given .1))
 
 shown-requires-2 : tie.Need-shown-requires-2
-shown-requires-2 c κs = readable _ _ (c .before .before .before .before .before .before .before .before .pre) _ (there-dead _ _ _ _ _ (c .before .before .before .before .look-up .ensures) _ (c .before .before .found2 .given .1)) _ (c .record-at2 .ensures)
+shown-requires-2 c κs = readable _ _ (c .before .before .before .before .before .before .before .before .pre) _ (dead-there _ _ _ _ _ (c .before .before .before .before .look-up .ensures) _ (c .before .before .found2 .given .1)) _ (c .record-at2 .ensures)
 
 marked-requires-2 : tie.Need-marked-requires-2
 marked-requires-2 c κs = search needs

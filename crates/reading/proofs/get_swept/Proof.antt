@@ -3,7 +3,7 @@ use native.Mathlib.Omega.{arith}
 use borrow.Author.Needs.{needs}
 use Rattle.laws.specs.Buffers.{given-sound}
 use Rattle.reading.specs.Readable.{readable}
-use Rattle.reading.specs.Meant.{no-live, there-live}
+use Rattle.laws.specs.Meant.{no-live, live-there}
 use Rattle.reading.specs.Answering.{get-nothing, get-live}
 use Rattle.reading.proofs.get_swept.Statement.{statement}
 use Rattle.reading.proofs.get_swept.Tie as tie
@@ -24,13 +24,13 @@ returns : tie.Need-returns
 returns c = get-nothing _ _ _ _ _ (c .before .before .look-up .ensures) _ _ (no-live _ (c .before .match .keys2)) (given-sound _ _ (c .before .before .before .before .before .before .before .pre) .dir-is) (c .plain .ensures)
 
 record-at-requires : tie.Need-record-at-requires
-record-at-requires c κs = (given-sound _ _ (c .before .before .before .before .before .before .before .before .before .pre) .dir-is, there-live _ _ _ _ _ (c .before .before .before .before .look-up .ensures) _ (c .before .before .found .given .1))
+record-at-requires c κs = (given-sound _ _ (c .before .before .before .before .before .before .before .before .before .pre) .dir-is, live-there _ _ _ _ _ (c .before .before .before .before .look-up .ensures) _ (c .before .before .found .given .1))
 
 shown-requires : tie.Need-shown-requires
-shown-requires c κs = readable _ _ (c .before .before .before .before .before .before .before .before .before .before .pre) _ (there-live _ _ _ _ _ (c .before .before .before .before .before .look-up .ensures) _ (c .before .before .before .found .given .1)) _ (c .record-at .ensures)
+shown-requires c κs = readable _ _ (c .before .before .before .before .before .before .before .before .before .before .pre) _ (live-there _ _ _ _ _ (c .before .before .before .before .before .look-up .ensures) _ (c .before .before .before .found .given .1)) _ (c .record-at .ensures)
 
 put-front-requires : tie.Need-put-front-requires
-put-front-requires c κs = (given-sound _ _ (c .before .before .before .before .before .before .before .before .before .before .before .before .pre) .dir-is, omega (arith, there-live _ _ _ _ _ (c .before .before .before .before .before .before .before .look-up .ensures) _ (c .before .before .before .before .before .found .given .1)))
+put-front-requires c κs = (given-sound _ _ (c .before .before .before .before .before .before .before .before .before .before .before .before .pre) .dir-is, omega (arith, live-there _ _ _ _ _ (c .before .before .before .before .before .before .before .look-up .ensures) _ (c .before .before .before .before .before .found .given .1)))
 
 plain-requires-2 : tie.Need-plain-requires-2
 plain-requires-2 c κs = search needs

@@ -3,7 +3,7 @@ use native.Mathlib.Omega.{arith}
 use borrow.Author.Needs.{needs}
 use Rattle.laws.specs.Buffers.{given-sound}
 use Rattle.reading.specs.Lent.{show-inside, show-notice, show-sound, show-there, show-text}
-use Rattle.reading.specs.Meant.{no-live}
+use Rattle.laws.specs.Meant.{no-live}
 use Rattle.reading.proofs.show.Statement.{statement}
 use Rattle.reading.proofs.show.Tie as tie
 

@@ -1,7 +1,7 @@
 -- `reading::ttl_in` meets its contract.
 use borrow.Author.Needs.{needs}
 use Rattle.laws.specs.Buffers.{given-sound}
-use Rattle.reading.specs.Meant.{no-live, there-live, not-dead}
+use Rattle.laws.specs.Meant.{no-live, live-there, not-dead}
 use Rattle.reading.specs.Answering.{ttl-nothing, ttl-live}
 use Rattle.reading.proofs.ttl_in.Statement.{statement}
 use Rattle.reading.proofs.ttl_in.Tie as tie
@@ -19,7 +19,7 @@ returns : tie.Need-returns
 returns c = ttl-nothing _ _ _ _ _ (c .before .before .look-up .ensures) _ (no-live _ (c .before .match .keys2)) (c .plain .ensures)
 
 record-at-requires : tie.Need-record-at-requires
-record-at-requires c κs = (given-sound _ _ (c .before .before .before .before .before .before .before .pre) .dir-is, there-live _ _ _ _ _ (c .before .before .before .look-up .ensures) _ (c .before .found .given .1))
+record-at-requires c κs = (given-sound _ _ (c .before .before .before .before .before .before .before .pre) .dir-is, live-there _ _ _ _ _ (c .before .before .before .look-up .ensures) _ (c .before .found .given .1))
 
 time-left-requires : tie.Need-time-left-requires
 time-left-requires c κs = not-dead _ _ _ _ _ (c .before .before .before .before .look-up .ensures) _ (c .before .before .found .given .1) _ (c .record-at .ensures)

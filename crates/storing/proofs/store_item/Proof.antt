@@ -1,5 +1,6 @@
 -- `storing::store_item` meets its contract.
-use Rattle.storing.specs.StoreLaws.{live-there, dead-there, item-live, item-dead, item-missing}
+use Rattle.laws.specs.Meant.{live-there, dead-there}
+use Rattle.storing.specs.StoreLaws.{item-live, item-dead, item-missing}
 use borrow.Author.Needs.{needs}
 use Rattle.storing.proofs.store_item.Statement.{statement}
 use Rattle.storing.proofs.store_item.Tie as tie
