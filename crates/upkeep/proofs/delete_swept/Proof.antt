@@ -1,4 +1,5 @@
 -- `upkeep::delete_swept` meets its contract.
+use native.Mathlib.Omega.{arith}
 use borrow.Author.Needs.{needs}
 use Rattle.rules.specs.Layout.{memoryOf}
 use Rattle.rules.specs.Calls.{deleteFound}
@@ -15,14 +16,14 @@ enum-known-found c = search needs
 
 delete-at-requires : tie.Need-delete-at-requires
 unfolding memoryOf
-delete-at-requires c κs = (c .before .before .before .before .before .before .before .before .before .before .before .pre, found-so _ _ _ _ (c .before .before .before .before .before .look-up .ensures) (c .before .before .before .found .given .1) .there)
+delete-at-requires c κs = (c .before .before .before .before .before .before .before .before .before .before .before .pre, omega (arith, found-so _ _ _ _ (c .before .before .before .before .before .look-up .ensures) (c .before .before .before .found .given .1) .there))
 
 enum-known-found-2 : tie.Need-enum-known-found-2
 enum-known-found-2 c = search needs
 
 delete-at-requires-2 : tie.Need-delete-at-requires-2
 unfolding memoryOf
-delete-at-requires-2 c κs = (c .before .before .before .before .before .before .before .before .before .before .before .pre, found-so _ _ _ _ (c .before .before .before .before .before .look-up .ensures) (c .before .before .before .found2 .given .1) .there)
+delete-at-requires-2 c κs = (c .before .before .before .before .before .before .before .before .before .before .before .pre, omega (arith, found-so _ _ _ _ (c .before .before .before .before .before .look-up .ensures) (c .before .before .before .found2 .given .1) .there))
 
 enum-told : tie.Need-enum-told
 enum-told c = search needs

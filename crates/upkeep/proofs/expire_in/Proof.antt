@@ -27,14 +27,14 @@ returns c = expire-not _ _ _ _ (c .before .before .look-up .ensures) (λ i e. �
 
 record-at-requires : tie.Need-record-at-requires
 unfolding memoryOf
-record-at-requires c κs = (given-sound _ _ (c .before .before .before .before .before .before .before .before .before .pre .0) .dir-is, found-so _ _ _ _ (c .before .before .before .before .look-up .ensures) (c .before .before .found .given .1) .there)
+record-at-requires c κs = (given-sound _ _ (c .before .before .before .before .before .before .before .before .before .pre .0) .dir-is, omega (arith, found-so _ _ _ _ (c .before .before .before .before .look-up .ensures) (c .before .before .found .given .1) .there))
 
 expiry-of-requires : tie.Need-expiry-of-requires
 expiry-of-requires c κs = search needs
 
 replace-at-requires : tie.Need-replace-at-requires
 unfolding memoryOf
-replace-at-requires c κs = (given-sound _ _ (c .before .before .before .before .before .before .before .before .before .before .before .before .pre .0) .dir-is, found-so _ _ _ _ (c .before .before .before .before .before .before .before .look-up .ensures) (c .before .before .before .before .before .found .given .1) .there)
+replace-at-requires c κs = (given-sound _ _ (c .before .before .before .before .before .before .before .before .before .before .before .before .pre .0) .dir-is, omega (arith, found-so _ _ _ _ (c .before .before .before .before .before .before .before .look-up .ensures) (c .before .before .before .before .before .found .given .1) .there))
 
 plain-requires-2 : tie.Need-plain-requires-2
 plain-requires-2 c κs = search needs

@@ -18,7 +18,7 @@ first-to-go-requires c κs = search needs
 
 drop-dead-requires : tie.Need-drop-dead-requires
 unfolding memoryOf
-drop-dead-requires c κs = (c .before .before .before .before .before .before .before .before .before .before .pre, c .before .before .first-to-go .ensures .within)
+drop-dead-requires c κs = (c .before .before .before .before .before .before .before .before .before .before .pre, omega (arith, c .before .before .first-to-go .ensures .within))
 
 sub-plain : tie.Need-sub-plain
 sub-plain c = omega (arith, c .before .before .before .before .drop-dead .ensures .few, c .before .before .before .before .before .before .before .before .before .before .before .count .ensures)
