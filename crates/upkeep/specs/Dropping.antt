@@ -12,13 +12,13 @@ use Rattle.rules.specs.Layout.{encode, entriesOf, none, replaceAt, Dir, memoryO
 use Rattle.rules.specs.Time.{dead}
 use Rattle.rules.specs.Calls.{liveOf, Holds}
 use Rattle.laws.specs.LayoutLaws.{entries-encode, length-encode, dir-encode}
-use Rattle.upkeep.specs.Culling.{culled, live-dead, live-live}
+use Rattle.upkeep.specs.LiveFrom.{liveFrom, live-not, live-one}
 
 -- how many entries are left, and the memory without the dead ones from `first` on
 pub record Dropped (clock first : ℕ) (dir pool : List ℕ) (left : ℕ) (dir' pool' : List ℕ) : Type 0 where
-  pub count : left ≡ length (culled clock first (memoryOf dir pool) .entries)
+  pub count : left ≡ length (liveFrom clock first (memoryOf dir pool) .entries)
   pub few : left ≤ length (entriesOf dir)
-  pub memory : Holds (length dir) (culled clock first (memoryOf dir pool)) dir' pool'
+  pub memory : Holds (length dir) (liveFrom clock first (memoryOf dir pool)) dir' pool'
 
 -- the records before `to` are those of the entries that are kept, of the first i; the records from there on are as they were
 pub record Moved (clock first : ℕ) (d₀ : List ℕ) (to i : ℕ) (d : List ℕ) : Type 0 where
@@ -72,7 +72,7 @@ module _ {clock first to i : ℕ} {d₀ d : List ℕ} (w : Moved clock first d�
         record {
           kept = w .kept;
           count = w .count;
-          whole = w .whole ∙ ap (λ (l : List Entry). w .kept ++ l) (live-dead clock es i h (sym so ∙ t) ∙ ap (λ (k : ℕ). liveOf clock (drop k es)) (sym (add-one i)));
+          whole = w .whole ∙ ap (λ (l : List Entry). w .kept ++ l) (live-not clock es i h (sym so ∙ t) ∙ ap (λ (k : ℕ). liveOf clock (drop k es)) (sym (add-one i)));
           order = omega (arith, w .order);
           some = omega arith;
           is = w .is;
@@ -106,7 +106,7 @@ module _ {clock first to i : ℕ} {d₀ d : List ℕ} (w : Moved clock first d�
           count = la;
           whole =
               w .whole
-              ∙ ap (λ (y : List Entry). w .kept ++ y) (live-live clock es i h (sym so ∙ t) ∙ ap (λ (f : Entry). f ∷ liveOf clock (drop (suc i) es)) (sym (x ∙ moved-at)) ∙ ap (λ (k : ℕ). e ∷ liveOf clock (drop k es)) (sym (add-one i)))
+              ∙ ap (λ (y : List Entry). w .kept ++ y) (live-one clock es i h (sym so ∙ t) ∙ ap (λ (f : Entry). f ∷ liveOf clock (drop (suc i) es)) (sym (x ∙ moved-at)) ∙ ap (λ (k : ℕ). e ∷ liveOf clock (drop k es)) (sym (add-one i)))
               ∙ sym (append-snoc (w .kept) e (liveOf clock (drop (i + 1) es)));
           order = omega (arith, w .order);
           some = omega arith;
@@ -118,7 +118,7 @@ module _ {clock first to i : ℕ} {d₀ d : List ℕ} (w : Moved clock first d�
 
   -- all are passed, and the records behind those kept are cleared
   pub moved-all : (pool : List ℕ) {d' : List ℕ} → length es ≤ i → d' ≡ encode (length d) (take to (entriesOf d)) → Dropped clock first d₀ pool to d' pool
-  unfolding culled memoryOf liveOf
+  unfolding liveFrom memoryOf liveOf
   moved-all pool {d'} h c =
       let a : List Entry = w .kept in
       let done : take first es ++ liveOf clock (drop first es) ≡ a = w .whole ∙ ap (λ (l : List Entry). a ++ liveOf clock l) (drop-of-length-le es {i = i} h) ∙ append-nil a in

@@ -1,3 +1,6 @@
-pub mod Culling
+pub mod StepLaws
+pub mod UpTo
+pub mod LiveFrom
+pub mod Flushing
 pub mod Dropping
 pub mod Works

@@ -1,15 +1,15 @@
 // Upkeep: delete, expire, flush_all and flush_expired. A name that ends in `_in` is for a caller whose memory is known to be sound.
 ghost use mathlib.Core.Path.{_≡_};
 ghost use mathlib.Core.Bool.{true, false};
-ghost use Prim.Native.Nat.{_≤_};
+ghost use Prim.Native.Nat.{_≤_, _<_};
 ghost use lib.ListN.{length};
-ghost use Rattle.rules.specs.Layout.{entriesOf, memoryOf};
+ghost use Rattle.rules.specs.Layout.{entriesOf, memoryOf, remove};
+ghost use Rattle.rules.specs.declared.Outcome.the-variants.{Done};
 ghost use Rattle.rules.specs.Time.{expiryOf, tooLate};
 ghost use Rattle.rules.specs.LookUp.{lookUp};
 ghost use Rattle.rules.specs.Soundness.{sound};
-ghost use Rattle.rules.specs.Calls.{Holds, Does, gave, deleteFound, deleteWork, deleteCall, expireFound, expireCall, flushAllWork, flushAllCall, upTo, flushExpiredWork, flushExpiredCall};
-ghost use Rattle.upkeep.specs.Works.{removeFound};
-ghost use Rattle.upkeep.specs.Culling.{GoFrom};
+ghost use Rattle.rules.specs.Calls.{Does, gave, did, deleteFound, deleteWork, deleteCall, expireFound, expireCall, flushAllWork, flushAllCall, upTo, flushExpiredWork, flushExpiredCall};
+ghost use Rattle.upkeep.specs.Flushing.{GoFrom};
 ghost use Rattle.upkeep.specs.Dropping.{Dropped};
 use rules::Answer;
 use rules::Check;
@@ -17,17 +17,14 @@ use rules::Entry;
 use rules::Found;
 use rules::Outcome;
 
-// Takes out the entry that the key means, live or dead, if there is one.
-fn remove_under(dir: &mut [u64], pool: &mut [u8], clock: u64, key: &[u8])
+// The entry at i goes, and the delete is done.
+fn delete_at(dir: &mut [u64], pool: &mut [u8], i: usize, removed: usize) -> Answer
     requires { ⌜ sound (now dir) (now pool) ≡ true ⌝ }
-    ensures { λ _. ⌜ Holds (length (now (dir .entry))) (removeFound (memoryOf (now (dir .entry)) (now (pool .entry))) (lookUp clock (now (key .entry)) (memoryOf (now (dir .entry)) (now (pool .entry))))) (now (dir .exit)) (now (pool .exit)) ⌝ }
+    requires { ⌜ i < length (entriesOf (now dir)) ⌝ }
+    ensures { λ r. ⌜ Does (did Done removed (remove i (memoryOf (now (dir .entry)) (now (pool .entry))))) (length (now (dir .entry))) r (now (dir .exit)) (now (pool .exit)) ⌝ }
 {
-    let found = memory::look_up(dir, pool, clock, key);
-    match found {
-        Found::Live(i) => memory::remove(dir, pool, i),
-        Found::Dead(i) => memory::remove(dir, pool, i),
-        Found::Missing => {}
-    }
+    memory::remove(dir, pool, i);
+    Answer::plain(Outcome::Done, removed)
 }
 
 // delete behind its sweep: the entry under the key goes, live or dead.
@@ -41,8 +38,12 @@ pub fn delete_swept(
     requires { ⌜ sound (now dir) (now pool) ≡ true ⌝ }
     ensures { λ r. ⌜ Does (deleteFound removed (memoryOf (now (dir .entry)) (now (pool .entry))) (lookUp clock (now (key .entry)) (memoryOf (now (dir .entry)) (now (pool .entry))))) (length (now (dir .entry))) r (now (dir .exit)) (now (pool .exit)) ⌝ }
 {
-    remove_under(dir, pool, clock, key);
-    Answer::plain(Outcome::Done, removed)
+    let found = memory::look_up(dir, pool, clock, key);
+    match found {
+        Found::Live(i) => delete_at(dir, pool, i, removed),
+        Found::Dead(i) => delete_at(dir, pool, i, removed),
+        Found::Missing => Answer::plain(Outcome::Done, removed), // nothing was there
+    }
 }
 
 // delete on a sound memory.
@@ -118,12 +119,12 @@ pub fn flush_all(dir: &mut [u64], pool: &[u8]) -> Answer
     flush_all_in(dir, pool)
 }
 
-// How many dead entries go at most: the maximum, 0 for all.
-fn most_to_go(maximum: u64, n: usize) -> usize
+// n, or the maximum if that is less; a maximum of 0 is none.
+fn up_to(maximum: u64, n: usize) -> usize
     ensures { λ r. ⌜ r ≡ upTo maximum n ⌝ }
 {
     if maximum == 0 {
-        return n;
+        return n; // for all
     }
     if (n as u64) < maximum {
         return n;
@@ -131,28 +132,28 @@ fn most_to_go(maximum: u64, n: usize) -> usize
     maximum as usize
 }
 
-// The first of the entries that go, so many at most: every dead one from there on goes. The number of entries if none goes.
+// The first of the dead entries that go, `most` at most: every dead one behind it goes too. The number of entries if none goes.
 fn first_to_go(dir: &[u64], pool: &[u8], clock: u64, most: usize) -> usize
     requires { ⌜ sound (now dir) (now pool) ≡ true ⌝ }
     ensures { λ r. ⌜ GoFrom clock most (memoryOf (now (dir .entry)) (now (pool .entry))) r ⌝ }
 {
     let mut i = directory::count(dir);
     let mut first = i;
-    let mut left = most;
+    let mut gone: usize = 0;
     while 0 < i {
-        if left == 0 {
+        if gone == most {
             return first;
         }
         i -= 1;
         if time::is_dead(directory::record_at(dir, i), clock) {
             first = i;
-            left -= 1;
+            gone += 1;
         }
     }
     first
 }
 
-// Takes every dead entry from `first` on out; the live ones behind it move down, each once. Answers how many entries are left.
+// Every dead entry from `first` on leaves, and the live ones move down, each once. Answers how many entries are left.
 fn drop_dead(dir: &mut [u64], pool: &mut [u8], clock: u64, first: usize) -> usize
     requires { ⌜ sound (now dir) (now pool) ≡ true ⌝ }
     requires { ⌜ first ≤ length (entriesOf (now dir)) ⌝ }
@@ -180,7 +181,7 @@ pub fn flush_expired_in(dir: &mut [u64], pool: &mut [u8], clock: u64, maximum: u
     ensures { λ r. ⌜ Does (flushExpiredWork clock maximum (memoryOf (now (dir .entry)) (now (pool .entry)))) (length (now (dir .entry))) r (now (dir .exit)) (now (pool .exit)) ⌝ }
 {
     let n = directory::count(dir);
-    let most = most_to_go(maximum, n);
+    let most = up_to(maximum, n);
     let first = first_to_go(dir, pool, clock, most);
     let kept = drop_dead(dir, pool, clock, first);
     Answer::plain(Outcome::Done, n - kept)

@@ -1,9 +1,9 @@
 -- `upkeep::delete` meets its contract.
+use mathlib.Core.Path.{sym, _∙_}
+use borrow.Author.Needs.{needs}
 use Rattle.rules.specs.Calls.{deleteWork, deleteCall}
 use Rattle.laws.specs.ChecksLaws.{key-passed}
 use Rattle.laws.specs.CallsLaws.{gave-refused, gave-passed}
-use mathlib.Core.Path.{sym, _∙_}
-use borrow.Author.Needs.{needs}
 use Rattle.upkeep.proofs.delete.Statement.{statement}
 use Rattle.upkeep.proofs.delete.Tie as tie
 

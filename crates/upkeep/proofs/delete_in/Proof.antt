@@ -1,11 +1,11 @@
 -- `upkeep::delete_in` meets its contract.
-use Rattle.rules.specs.Calls.{deleteFound, deleteWork}
-use Rattle.rules.specs.LookUp.{lookUp}
-use Rattle.rules.specs.Layout.{Memory}
-use Rattle.laws.specs.Buffers.{step-sound, swept-sound}
-use Rattle.upkeep.specs.Works.{after-sweep}
 use Prim.Native.Nat.{ℕ}
 use borrow.Author.Needs.{needs}
+use Rattle.rules.specs.Layout.{Memory}
+use Rattle.rules.specs.LookUp.{lookUp}
+use Rattle.rules.specs.Calls.{deleteFound, deleteWork}
+use Rattle.laws.specs.Buffers.{step-sound, swept-sound}
+use Rattle.upkeep.specs.StepLaws.{after-sweep}
 use Rattle.upkeep.proofs.delete_in.Statement.{statement}
 use Rattle.upkeep.proofs.delete_in.Tie as tie
 

@@ -1,11 +1,11 @@
 -- `upkeep::drop_dead` meets its contract. The invariant: the records before `kept` are of the entries kept, and the others are as they were.
-use Rattle.upkeep.specs.Dropping.{Moved, moved-none, moved-dead, moved-live, moved-all}
-use Rattle.rules.specs.Layout.{entriesOf}
-use Rattle.laws.specs.Buffers.{given-sound}
 use mathlib.Core.Path.{_≡_, sym, _∙_}
 use Prim.Native.Nat.{_-_}
 use native.Mathlib.Omega.{arith}
 use lib.ListN.{length}
+use Rattle.rules.specs.Layout.{entriesOf}
+use Rattle.laws.specs.Buffers.{given-sound}
+use Rattle.upkeep.specs.Dropping.{Moved, moved-none, moved-dead, moved-live, moved-all}
 use Rattle.upkeep.proofs.drop_dead.Statement.{statement}
 use Rattle.upkeep.proofs.drop_dead.Tie as tie
 

@@ -1,9 +1,9 @@
 -- `upkeep::expire` meets its contract.
+use mathlib.Core.Path.{sym, _∙_}
+use borrow.Author.Needs.{needs}
 use Rattle.rules.specs.Calls.{expireCall}
 use Rattle.laws.specs.ChecksLaws.{expire-passed, expire-in-time}
 use Rattle.laws.specs.CallsLaws.{gave-refused, gave-passed}
-use mathlib.Core.Path.{sym, _∙_}
-use borrow.Author.Needs.{needs}
 use Rattle.upkeep.proofs.expire.Statement.{statement}
 use Rattle.upkeep.proofs.expire.Tie as tie
 

@@ -1,10 +1,10 @@
 -- `upkeep::flush_all` meets its contract.
+use mathlib.Core.Path.{sym, _∙_}
+use borrow.Author.Tests.{not-false}
+use borrow.Author.Needs.{needs}
 use Rattle.rules.specs.Calls.{flushAllWork, flushAllCall}
 use Rattle.laws.specs.ChecksLaws.{sound-not, sound-yes}
 use Rattle.laws.specs.CallsLaws.{gave-refused, gave-passed}
-use borrow.Author.Tests.{not-false}
-use mathlib.Core.Path.{sym, _∙_}
-use borrow.Author.Needs.{needs}
 use Rattle.upkeep.proofs.flush_all.Statement.{statement}
 use Rattle.upkeep.proofs.flush_all.Tie as tie
 

@@ -1,9 +1,9 @@
 -- `upkeep::flush_all_in` meets its contract.
+use mathlib.Core.Path.{refl}
+use borrow.Author.Needs.{needs}
 use Rattle.rules.specs.Layout.{memoryOf}
 use Rattle.rules.specs.Calls.{flushAllWork}
 use Rattle.laws.specs.Buffers.{given-sound}
-use mathlib.Core.Path.{refl}
-use borrow.Author.Needs.{needs}
 use Rattle.upkeep.proofs.flush_all_in.Statement.{statement}
 use Rattle.upkeep.proofs.flush_all_in.Tie as tie
 

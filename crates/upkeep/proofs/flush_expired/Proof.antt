@@ -1,9 +1,9 @@
 -- `upkeep::flush_expired` meets its contract.
+use mathlib.Core.Path.{sym, _∙_}
+use borrow.Author.Needs.{needs}
 use Rattle.rules.specs.Calls.{flushExpiredWork, flushExpiredCall}
 use Rattle.laws.specs.ChecksLaws.{clock-passed}
 use Rattle.laws.specs.CallsLaws.{gave-refused, gave-passed}
-use mathlib.Core.Path.{sym, _∙_}
-use borrow.Author.Needs.{needs}
 use Rattle.upkeep.proofs.flush_expired.Statement.{statement}
 use Rattle.upkeep.proofs.flush_expired.Tie as tie
 

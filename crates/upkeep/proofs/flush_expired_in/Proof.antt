@@ -1,24 +1,24 @@
 -- `upkeep::flush_expired_in` meets its contract.
+use native.Mathlib.Omega.{arith}
+use borrow.Author.Needs.{needs}
 use Rattle.rules.specs.Layout.{memoryOf}
 use Rattle.laws.specs.Buffers.{given-sound}
 use Rattle.upkeep.specs.Works.{flush-done}
-use native.Mathlib.Omega.{arith}
-use borrow.Author.Needs.{needs}
 use Rattle.upkeep.proofs.flush_expired_in.Statement.{statement}
 use Rattle.upkeep.proofs.flush_expired_in.Tie as tie
 
 count-requires : tie.Need-count-requires
 count-requires c κs = given-sound _ _ (c .before .before .before .pre) .dir-is
 
-most-to-go-requires : tie.Need-most-to-go-requires
-most-to-go-requires c κs = search needs
+up-to-requires : tie.Need-up-to-requires
+up-to-requires c κs = search needs
 
 first-to-go-requires : tie.Need-first-to-go-requires
 first-to-go-requires c κs = search needs
 
 drop-dead-requires : tie.Need-drop-dead-requires
 unfolding memoryOf
-drop-dead-requires c κs = (c .before .before .before .before .before .before .before .before .before .before .pre, c .before .before .first-to-go .ensures .within)
+drop-dead-requires c κs = (c .before .before .before .before .before .before .before .before .before .before .pre, omega (arith, c .before .before .first-to-go .ensures .within))
 
 sub-plain : tie.Need-sub-plain
 sub-plain c = omega (arith, c .before .before .before .before .drop-dead .ensures .few, c .before .before .before .before .before .before .before .before .before .before .before .count .ensures)
@@ -33,14 +33,14 @@ same-length-2 : tie.Need-same-length-2
 same-length-2 c = search needs
 
 returns : tie.Need-returns
-returns c = flush-done _ _ _ (c .before .before .before .before .before .before .before .before .before .before .before .before .count .ensures) (c .before .before .before .before .before .before .before .before .before .before .before .most-to-go .ensures) (c .before .before .before .before .before .before .before .before .first-to-go .ensures) (c .before .before .before .before .before .drop-dead .ensures) (c .plain .ensures)
+returns c = flush-done _ _ _ (c .before .before .before .before .before .before .before .before .before .before .before .before .count .ensures) (c .before .before .before .before .before .before .before .before .before .before .before .up-to .ensures) (c .before .before .before .before .before .before .before .before .first-to-go .ensures) (c .before .before .before .before .before .drop-dead .ensures) (c .plain .ensures)
 
 pub flush-expired-in-spec : {M : Type 1} → statement M
 flush-expired-in-spec =
     tie.close
     (tie.spec
     count-requires
-    most-to-go-requires
+    up-to-requires
     first-to-go-requires
     drop-dead-requires
     sub-plain
