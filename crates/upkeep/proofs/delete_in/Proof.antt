@@ -5,7 +5,7 @@ use Rattle.rules.specs.Layout.{Memory}
 use Rattle.rules.specs.LookUp.{lookUp}
 use Rattle.rules.specs.Calls.{deleteFound, deleteWork}
 use Rattle.laws.specs.Buffers.{step-sound, swept-sound}
-use Rattle.upkeep.specs.StepLaws.{after-sweep}
+use Rattle.eviction.specs.Swept.{behind-sweep}
 use Rattle.upkeep.proofs.delete_in.Statement.{statement}
 use Rattle.upkeep.proofs.delete_in.Tie as tie
 
@@ -23,7 +23,7 @@ same-length-2 c = search needs
 
 returns : tie.Need-returns
 unfolding deleteWork
-returns c = after-sweep _ (λ (removed : ℕ) (m : Memory). deleteFound removed m (lookUp _ _ m)) _ _ (c .before .before .before .before .before .before .before .before .before .before .before .before .before .before .before .before .before .pre) (c .before .before .before .before .before .before .before .before .before .before .before .sweep .ensures) (c .before .before .before .before .delete-swept .ensures)
+returns c = behind-sweep _ _ _ (c .before .before .before .before .before .before .before .before .before .before .before .before .before .before .before .before .before .pre) (c .before .before .before .before .before .before .before .before .before .before .before .sweep .ensures) (λ (removed : ℕ) (m : Memory). deleteFound removed m (lookUp _ _ m)) (c .before .before .before .before .delete-swept .ensures)
 
 pub delete-in-spec : {M : Type 1} → statement M
 delete-in-spec =
