@@ -1,4 +1,4 @@
--- From one step of a call to the next, of use to any call: work behind a sweep, and work on what a look-up found.
+-- Work on what a look-up found, of use to any call.
 use mathlib.Core.Path.{_≡_, sym, _∙_, subst}
 use mathlib.Core.List.{List}
 use Prim.Native.Nat.{ℕ}
