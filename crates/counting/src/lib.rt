@@ -31,7 +31,7 @@ fn incr_live(dir: &mut [u64], pool: &mut [u8], i: usize, step: i64, removed: usi
     }
     let sum = values::add(values::number_at(pool, e), step);
     let Sum::Is(number) = sum else {
-        return Answer::plain(Outcome::SumTooLarge, removed);
+        return Answer::plain(Outcome::SumTooLarge, removed); // nothing is stored
     };
     let bytes = values::number_bytes(number);
     storing::rewrite_at(dir, pool, i, e, &bytes[..]);

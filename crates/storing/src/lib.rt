@@ -95,11 +95,11 @@ fn place_anew(
         };
     };
     place_at(dir, pool, start, key, value, order);
-    let told = order.told;
+    let told = order.told; // stored
     Answer {
-        rounds: choice.ran,
+        rounds: choice.ran, // those that went
         removed,
-        forced: 0 < choice.ran,
+        forced: 0 < choice.ran, // a round ran
         stale: false,
         outcome: told,
     }
@@ -122,13 +122,13 @@ fn store_over(
 {
     let old = directory::record_at(dir, i);
     if old.vlen != value.len() as u64 {
-        memory::remove(dir, pool, i);
+        memory::remove(dir, pool, i); // also where 12 follows
         return place_anew(dir, pool, clock, key, value, order);
     }
     let e = Entry {
-        expiry: order.expiry,
-        kind: order.kind,
-        flags: order.flags,
+        expiry: order.expiry, // none of the old ones stays
+        kind: order.kind, // nor the kind
+        flags: order.flags, // nor the flags
         start: old.start,
         klen: key.len() as u64,
         vlen: value.len() as u64,

@@ -27,7 +27,7 @@ pub fn expiry_of(clock: u64, lifetime: u64) -> u64
     ensures { λ r. ⌜ r ≡ expiryOf clock lifetime ⌝ }
 {
     if lifetime == 0 {
-        return 0;
+        return 0; // never
     }
     clock + lifetime
 }
