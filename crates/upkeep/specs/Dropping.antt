@@ -20,7 +20,7 @@ pub record Dropped (clock first : ℕ) (dir pool : List ℕ) (left : ℕ) (dir' 
   pub few : left ≤ length (entriesOf dir)
   pub memory : Holds (length dir) (liveFrom clock first (memoryOf dir pool)) dir' pool'
 
--- the records before `to` are those of the entries that are kept, of the first i; the records from there on are as they were
+-- the first i entries are passed: the records before `to` are those of the ones kept, and from there on they are as they were
 pub record Moved (clock first : ℕ) (d₀ : List ℕ) (to i : ℕ) (d : List ℕ) : Type 0 where
   pub kept : List Entry
   pub count : length kept ≡ to
@@ -51,7 +51,7 @@ module _ {clock first to i : ℕ} {d₀ d : List ℕ} (w : Moved clock first d�
   es = entriesOf d₀
 
   -- the next entry is still where it was
-  pub moved-at : getD (entriesOf d) i none ≡ getD es i none
+  moved-at : getD (entriesOf d) i none ≡ getD es i none
   moved-at =
       let a : List Entry = w .kept in
       let p : i ≡ length a + (i - to) = omega (arith, w .count, w .order) in
