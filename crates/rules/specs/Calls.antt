@@ -27,7 +27,7 @@ use Rattle.rules.specs.Time.{dead, expiryOf, timeLeft, withExpiry}
 use Rattle.rules.specs.LookUp.{lookUp}
 use Rattle.rules.specs.Recency.{line, sweepCount, sweep, gone}
 use Rattle.rules.specs.Place.{Placed, run}
-use Rattle.rules.specs.Answer.{plain, marked}
+use Rattle.rules.specs.Answer.{plain, marked, answerWords}
 use Rattle.rules.specs.Checks.{checkLengths, checkSound, clockChecks, keyChecks, expireChecks, storeChecks, incrChecks}
 
 -- ---- what a call gives
@@ -46,6 +46,12 @@ pub record Result : Type 0 where
 -- a call that gave this answer and left these words and bytes
 abbrev pub gave : Answer → List ℕ → List ℕ → Result
 gave answer dir pool = record { answer = answer; dir = dir; pool = pool }
+
+-- a call's result handed to another language: the answer as words, the directory and the pool
+pub record Exported (r : Result) (answer dir pool : List ℕ) : Type 0 where
+  pub answer-words : answer ≡ answerWords (r .answer)
+  pub dir-words : dir ≡ r .dir
+  pub pool-bytes : pool ≡ r .pool
 
 -- work that ran no rounds
 abbrev pub did : Outcome → ℕ → Memory → Work
