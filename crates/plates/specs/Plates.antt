@@ -6,7 +6,7 @@ use Prim.Native.Nat.{ℕ}
 use lib.ListN.{replicate, getD}
 use lib.IntN.{pos}
 use Rattle.rules.specs.declared.Entry.{Entry}
-use Rattle.rules.specs.declared.Outcome.the-variants.{Done, Number, Count, NotFound, NoMemory}
+use Rattle.rules.specs.declared.Outcome.the-variants.{Done, Number, Count, KeyEmpty, NotFound, NoMemory}
 use Rattle.rules.specs.declared.Operation.{Operation}
 use Rattle.rules.specs.declared.Operation.the-variants.{Set, SafeSet}
 use Rattle.rules.specs.Layout.{need, encode, decode, flat, entriesOf, without, toFront, put, keyOf, numberBytes, numberAt, memoryOf, remove, removeOldest, moveToFront}
@@ -46,21 +46,21 @@ e = 101 ∷ []
 abbrev AB12 : List ℕ
 AB12 = 65 ∷ 66 ∷ 49 ∷ 50 ∷ []
 
--- "a, b, c, d with one cell each at 0, 1, 2, 3"
+-- 01's "full yard": "a, b, c, d with one cell each at 0, 1, 2, 3"
 abbrev cells : List ℕ
 cells = cell 97 ++ cell 98 ++ cell 99 ++ cell 100
 
 -- "never expiring, a longest unused"
-abbrev yard : List ℕ
-yard = encode 26 (tare 0 3 ∷ tare 0 2 ∷ tare 0 1 ∷ tare 0 0 ∷ [])
+abbrev full : List ℕ
+full = encode 26 (tare 0 3 ∷ tare 0 2 ∷ tare 0 1 ∷ tare 0 0 ∷ [])
 
 -- "Order of use a, c, b, d from the oldest, same places"
-abbrev yard7 : List ℕ
-yard7 = encode 26 (tare 0 3 ∷ tare 0 1 ∷ tare 0 2 ∷ tare 0 0 ∷ [])
+abbrev full7 : List ℕ
+full7 = encode 26 (tare 0 3 ∷ tare 0 1 ∷ tare 0 2 ∷ tare 0 0 ∷ [])
 
 -- "As full yard but b, c, d dead", at the clock 1000
-abbrev yard8 : List ℕ
-yard8 = encode 26 (tare 500 3 ∷ tare 500 2 ∷ tare 500 1 ∷ tare 0 0 ∷ [])
+abbrev full8 : List ℕ
+full8 = encode 26 (tare 500 3 ∷ tare 500 2 ∷ tare 500 1 ∷ tare 0 0 ∷ [])
 
 abbrev fresh : Result
 fresh = freshCall (replicate 26 7) (replicate 128 7)
@@ -105,21 +105,34 @@ pub record Plates : Type 0 where
   -- Get at 1500 instead: 8, removed 1, no entries
   pub p4 : (getCall (stored .dir) (stored .pool) 1500 AB12 .answer ≡ plain NotFound 1) × (getCall (stored .dir) (stored .pool) 1500 AB12 .dir ≡ fresh .dir)
   -- rounds 1, start 0; order e, d, c, b
-  pub p5 : (rounds (number Set yard e) ≡ 1) × (start (number Set yard e) ≡ 0) × (order (number Set yard e) ≡ e ∷ d ∷ c ∷ b ∷ [])
+  pub p5 : (rounds (number Set full e) ≡ 1) × (start (number Set full e) ≡ 0) × (order (number Set full e) ≡ e ∷ d ∷ c ∷ b ∷ [])
   -- two cells: rounds 2, start 0; order e, d, c
-  pub p6 : (rounds (text Set yard e 40) ≡ 2) × (start (text Set yard e 40) ≡ 0) × (order (text Set yard e 40) ≡ e ∷ d ∷ c ∷ [])
+  pub p6 : (rounds (text Set full e 40) ≡ 2) × (start (text Set full e 40) ≡ 0) × (order (text Set full e 40) ≡ e ∷ d ∷ c ∷ [])
   -- Order of use a, c, b, d from the oldest: rounds 3, start 0
-  pub p7 : (rounds (text Set yard7 e 40) ≡ 3) × (start (text Set yard7 e 40) ≡ 0) × (order (text Set yard7 e 40) ≡ e ∷ d ∷ [])
+  pub p7 : (rounds (text Set full7 e 40) ≡ 3) × (start (text Set full7 e 40) ≡ 0) × (order (text Set full7 e 40) ≡ e ∷ d ∷ [])
   -- the sweep takes none; rounds 1, removed 3, d stays
-  pub p8 : (sweepCount 1000 (memoryOf yard8 cells) ≡ 0) × (rounds (number Set yard8 e) ≡ 1) × (removed (number Set yard8 e) ≡ 3) × (order (number Set yard8 e) ≡ e ∷ d ∷ [])
+  pub p8 : (sweepCount 1000 (memoryOf full8 cells) ≡ 0) × (rounds (number Set full8 e) ≡ 1) × (removed (number Set full8 e) ≡ 3) × (order (number Set full8 e) ≡ e ∷ d ∷ [])
   -- five cells: 12, rounds 4, removed 4, no entries
-  pub p9 : (text Set yard e 140 .answer ≡ record { rounds = 4; removed = 4; forced = true; stale = false; outcome = NoMemory }) × (order (text Set yard e 140) ≡ [])
+  pub p9 : (text Set full e 140 .answer ≡ record { rounds = 4; removed = 4; forced = true; stale = false; outcome = NoMemory }) × (order (text Set full e 140) ≡ [])
   -- safe_set e: 12, unchanged
-  pub p10 : number SafeSet yard e ≡ record { answer = plain NoMemory 0; dir = yard; pool = cells }
+  pub p10 : number SafeSet full e ≡ record { answer = plain NoMemory 0; dir = full; pool = cells }
   -- safe_set a, two cells: 12, and a is gone
-  pub p11 : (text SafeSet yard a 40 .answer ≡ plain NoMemory 0) × (order (text SafeSet yard a 40) ≡ d ∷ c ∷ b ∷ [])
+  pub p11 : (text SafeSet full a 40 .answer ≡ plain NoMemory 0) × (order (text SafeSet full a 40) ≡ d ∷ c ∷ b ∷ [])
   -- b overwritten with equal length: start 1; order b, d, c, a
-  pub p12 : (number Set yard b .answer ≡ plain Done 0) × (start (number Set yard b) ≡ 1) × (order (number Set yard b) ≡ b ∷ d ∷ c ∷ a ∷ [])
+  pub p12 : (number Set full b .answer ≡ plain Done 0) × (start (number Set full b) ≡ 1) × (order (number Set full b) ≡ b ∷ d ∷ c ∷ a ∷ [])
+
+-- the replay example of 01: its two stores' and gets' answers, line by line
+pub record Example : Type 0 where
+  pub line1 : fresh .answer ≡ plain Done 0
+  pub line2 : stored .answer ≡ plain Done 0
+  pub line3 : getCall (stored .dir) (stored .pool) 1200 AB12 .answer ≡ plain (Number 0 (pos 14200) 4) 0
+  pub line4 : getCall (stored .dir) (stored .pool) 1500 AB12 .answer ≡ plain NotFound 1
+  -- a blank key, after that: it matches nothing
+  pub line5 : getCall (fresh .dir) (stored .pool) 1500 [] .answer ≡ plain KeyEmpty 0
+
+pub example : Example
+unfolding encode flat decode entriesOf without toFront put keyOf numberBytes numberAt memoryOf remove removeOldest moveToFront dead expiryOf tooLate timeLeft same keyIs foundFrom lookUp deads after gone sweepCount sweep holds held freeRun fitFrom firstFree run every any rightLengths valueFits entrySound noneShared sound _then_ refuse checkLengths checkSound checkClock checkKey checkKind takesNil checkNil checkLifetime clockChecks keyChecks storeChecks call ask freshWork freshCall afterSweep shown getFound getWork getCall deleteFound entryFor placeAt rewriteAt overwriteAt searched evicted forcedBy fitOutcome placeFit placedBy placeAnew storeOver storeItem mostRounds admits booleanByte valueGiven storeAdmitted storeFound storeWork itemOf storeCall ttlFound ttlCall
+example = record { line1 = refl; line2 = refl; line3 = refl; line4 = refl; line5 = refl }
 
 pub plates : Plates
 unfolding encode flat decode entriesOf without toFront put keyOf numberBytes numberAt memoryOf remove removeOldest moveToFront dead expiryOf tooLate timeLeft same keyIs foundFrom lookUp deads after gone sweepCount sweep holds held freeRun fitFrom firstFree run every any rightLengths valueFits entrySound noneShared sound _then_ refuse checkLengths checkSound checkClock checkKey checkKind takesNil checkNil checkLifetime clockChecks keyChecks storeChecks call ask freshWork freshCall afterSweep shown getFound getWork getCall deleteFound entryFor placeAt rewriteAt overwriteAt searched evicted forcedBy fitOutcome placeFit placedBy placeAnew storeOver storeItem mostRounds admits booleanByte valueGiven storeAdmitted storeFound storeWork itemOf storeCall ttlFound ttlCall
