@@ -1,4 +1,5 @@
 -- `storing::store_over` meets its contract.
+use native.Mathlib.Omega.{arith}
 use mathlib.Core.Path.{sym, ap, _∙_}
 use Rattle.rules.specs.Calls.{entryFor}
 use Rattle.laws.specs.Buffers.{given-sound, step-sound, removed-sound}
@@ -11,7 +12,7 @@ record-at-requires : tie.Need-record-at-requires
 record-at-requires c κs = (given-sound _ _ (c .before .before .before .before .before .pre .0) .dir-is, c .before .before .before .before .before .pre .1 .1)
 
 remove-requires : tie.Need-remove-requires
-remove-requires c κs = (c .before .before .before .before .before .before .before .before .before .before .pre .0, c .before .before .before .before .before .before .before .before .before .before .pre .1 .1)
+remove-requires c κs = (c .before .before .before .before .before .before .before .before .before .before .pre .0, omega (arith, c .before .before .before .before .before .before .before .before .before .before .pre .1 .1))
 
 place-anew-requires : tie.Need-place-anew-requires
 place-anew-requires c κs = (step-sound _ _ (c .before .before .before .before .before .before .before .before .before .before .before .before .before .before .before .before .before .pre .0) (removed-sound _ _ (c .before .before .before .before .before .before .before .before .before .before .before .before .before .before .before .before .before .pre .0) _) (c .before .before .before .before .before .before .remove .ensures), c .before .before .before .before .before .before .before .before .before .before .before .before .before .before .before .before .before .pre .1 .0)
