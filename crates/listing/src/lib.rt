@@ -2,16 +2,19 @@
 ghost use mathlib.Core.Path.{_≡_};
 ghost use mathlib.Core.Bool.{true};
 ghost use mathlib.Core.List.{[], _∷_};
-ghost use Prim.Native.Nat.{_+_, _*_, _≤_};
+ghost use Prim.Native.Nat.{_+_, _*_, _≤_, min};
 ghost use lib.ListN.{length};
 ghost use Rattle.rules.specs.Layout.{entriesOf, Dir, put, memoryOf};
 ghost use Rattle.rules.specs.Soundness.{sound};
-ghost use Rattle.rules.specs.Calls.{upTo, rowOf, rowWords, flatListing, listedFlat, getKeysFlatCall};
+ghost use Rattle.rules.specs.Calls.{upTo, rowOf, rowWords, flatListing, listedFlat, getKeysFlatCall, listing, getKeysCall};
 ghost use Rattle.listing.specs.Rows.{Listed};
+ghost use Rattle.listing.specs.Filling.{rowAt, Fits, filled};
+ghost use Rattle.listing.specs.Told.{Tells, Told};
 use rules::Answer;
 use rules::Check;
 use rules::Entry;
 use rules::Outcome;
+use rules::Row;
 
 // How many rows are written at most: the rows that fit, and no more than the maximum, 0 for none.
 fn most_rows(maximum: u64, room: usize) -> usize
@@ -90,4 +93,77 @@ pub fn get_keys_flat(
         return Answer::plain(o, 0);
     }
     get_keys_flat_in(dir, pool, clock, maximum, table)
+}
+
+// The k-th row of a table of plain numbers.
+fn row_at(table: &[u64], k: usize) -> Row
+    requires { ⌜ 3 * k + 3 ≤ length (now table) ⌝ }
+    ensures { λ r. ⌜ r ≡ rowAt (now (table .entry)) k ⌝ }
+{
+    let p = 3 * k;
+    Row {
+        start: table[p],
+        klen: table[p + 1],
+        kind: table[p + 2],
+    }
+}
+
+// The first n rows of a table of plain numbers.
+fn fill_rows(rows: &mut [Row], table: &[u64], n: usize)
+    requires { ⌜ Fits n (length (now rows)) (length (now table)) ⌝ }
+    ensures { λ _. ⌜ now (rows .exit) ≡ filled (now (rows .entry)) (now (table .entry)) n ⌝ }
+{
+    let mut k: usize = 0;
+    while k < n {
+        rows[k] = row_at(table, k);
+        k += 1;
+    }
+}
+
+// The rows that a table of 3,072 numbers is used for: no memory has more than 1,024 entries.
+fn used_rows(room: usize) -> usize
+    ensures { λ r. ⌜ r ≡ min room 1024 ⌝ }
+{
+    if room < 1024 {
+        return room;
+    }
+    1024
+}
+
+// get_keys into the plain numbers of so many rows.
+fn keys_for(
+    dir: &[u64],
+    pool: &[u8],
+    clock: u64,
+    maximum: u64,
+    room: usize,
+    table: &mut [u64],
+) -> Answer
+    requires { ⌜ length (now table) ≡ 3072 ⌝ }
+    ensures { λ r. ⌜ Told (now (dir .entry)) (now (pool .entry)) clock maximum room r (now (table .exit)) ⌝ }
+{
+    let end = 3 * used_rows(room);
+    get_keys_flat(dir, pool, clock, maximum, &mut table[..end])
+}
+
+// The rows that an answer tells of: none with a refusal.
+fn rows_told(answer: Answer) -> usize
+    ensures { λ r. ⌜ Tells (answer .outcome) r ⌝ }
+{
+    let outcome = answer.outcome;
+    let Outcome::Count(n) = outcome else {
+        return 0;
+    };
+    n as usize
+}
+
+// get_keys into a lent table of rows, a row for each live entry, most recent first.
+pub fn get_keys(dir: &[u64], pool: &[u8], clock: u64, maximum: u64, rows: &mut [Row]) -> Answer
+    ensures { λ r. ⌜ listing r (now (rows .exit)) ≡ getKeysCall (now (dir .entry)) (now (pool .entry)) clock maximum (now (rows .entry)) ⌝ }
+{
+    let mut table = [0u64; 3072];
+    let answer = keys_for(dir, pool, clock, maximum, rows.len(), &mut table);
+    let n = rows_told(answer);
+    fill_rows(rows, &table, n);
+    answer
 }
