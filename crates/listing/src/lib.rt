@@ -108,7 +108,7 @@ fn row_at(table: &[u64], k: usize) -> Row
     }
 }
 
-// The first n rows of a table of plain numbers.
+// The first n rows of a table of plain numbers. Thin: over a slice of structs its proof is by hand.
 fn fill_rows(rows: &mut [Row], table: &[u64], n: usize)
     requires { ⌜ Fits n (length (now rows)) (length (now table)) ⌝ }
     ensures { λ _. ⌜ now (rows .exit) ≡ filled (now (rows .entry)) (now (table .entry)) n ⌝ }
@@ -157,7 +157,7 @@ fn rows_told(answer: Answer) -> usize
     n as usize
 }
 
-// get_keys into a lent table of rows, a row for each live entry, most recent first.
+// get_keys into a lent table of rows, a row for each live entry, most recent first. Thin, as fill_rows is.
 pub fn get_keys(dir: &[u64], pool: &[u8], clock: u64, maximum: u64, rows: &mut [Row]) -> Answer
     ensures { λ r. ⌜ listing r (now (rows .exit)) ≡ getKeysCall (now (dir .entry)) (now (pool .entry)) clock maximum (now (rows .entry)) ⌝ }
 {

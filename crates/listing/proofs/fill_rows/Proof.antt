@@ -1,6 +1,5 @@
--- `listing::fill_rows` meets its contract: a walk of its MIR, by hand, with a loop. The slice's borrow is opened once, before the loop, and closed once, after it; each turn calls `row_at`, takes row k out, stores to it and puts it back.
--- All that the proof knows of `row_at` is that it meets its contract.
--- Assumes nothing.
+-- `listing::fill_rows` meets its contract: a walk of its code by hand, since it is over a slice of structs. Of `row_at` it knows the contract alone.
+-- The slice's borrow is opened once, before the loop, and closed once, after it; each turn takes row k out, stores to it and puts it back. After k turns the rows are `filled rows table k`.
 use mathlib.Core.Path.{_≡_, refl, sym, _∙_, ap, subst}
 use Prim.Native.Nat.{ℕ, zero, suc, _+_, _*_, _<_, _≤_, _^_}
 use native.Mathlib.Nat.{add-zero, add-suc, zero-add, suc-add, lt-irrefl}

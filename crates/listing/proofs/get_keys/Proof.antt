@@ -1,5 +1,5 @@
--- `listing::get_keys` meets its contract: a walk of its MIR, by hand, of three calls. The table is lent to `keys_for` and then, by `&`, to `fill_rows`, each for a lifetime of the call; the rows go to `fill_rows` for good.
--- All that the proof knows of the three callees is that they meet their contracts.
+-- `listing::get_keys` meets its contract: a walk of its code by hand, since it is over a slice of structs. Of its three callees it knows the contracts alone.
+-- The table is lent to `keys_for`, and then by `&` to `fill_rows`, each for a lifetime of the call; the rows go to `fill_rows` for good.
 mod Table
 use mathlib.Core.Path.{_≡_, refl, sym, _∙_, ap, subst}
 use Prim.Native.Nat.{ℕ, _<_, _^_}
