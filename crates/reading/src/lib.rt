@@ -146,7 +146,7 @@ pub fn bytes_at(pool: &[u8], offset: u64, size: u64) -> &[u8]
 }
 
 // The live text under the key, if a get of it would be answered.
-fn find_text(dir: &[u64], pool: &[u8], clock: u64, key: &[u8]) -> Found
+pub fn find_text(dir: &[u64], pool: &[u8], clock: u64, key: &[u8]) -> Found
     ensures { λ r. ⌜ r ≡ showFound (keyChecks (now (dir .entry)) (now (pool .entry)) clock (now (key .entry))) clock (now (key .entry)) (memoryOf (now (dir .entry)) (now (pool .entry))) ⌝ }
 {
     let check = checks::of_key(dir, pool, clock, key);
