@@ -1,7 +1,11 @@
 // Decimal numbers of replay lines: read from a field, and written.
 ghost use mathlib.Core.Path.{_≡_};
-ghost use Rattle.rules.specs.Replay.{numberSaid};
-ghost use Rattle.decimals.specs.Reading.{number, runSaid};
+ghost use Rattle.rules.specs.Replay.{numberSaid, weightSaid};
+ghost use Rattle.decimals.specs.Reading.{number, weight, runSaid};
+
+const HALF: u64 = 9223372036854775808;
+
+const TOP: u64 = 18446744073709551615;
 
 // What a field says: a number, or nothing that is understood.
 pub enum Number {
@@ -63,4 +67,28 @@ pub fn read_number(field: &[u8], most: u64) -> Number
         return Number::Unread;
     }
     run(field, most)
+}
+
+// A signed number of 64 bits: only here a minus may stand, and not before 0.
+pub fn read_weight(field: &[u8]) -> Weight
+    ensures { λ r. ⌜ weight r ≡ weightSaid (now (field .entry)) ⌝ }
+{
+    if field.len() == 0 {
+        return Weight::Unread;
+    }
+    if field[0] == 45 {
+        let below = read_number(&field[1..], HALF);
+        let Number::Is(n) = below else {
+            return Weight::Unread;
+        };
+        if n == 0 {
+            return Weight::Unread;
+        }
+        return Weight::Is(values::from_bits(TOP - n + 1));
+    }
+    let above = read_number(field, HALF - 1);
+    let Number::Is(n) = above else {
+        return Weight::Unread;
+    };
+    Weight::Is(values::from_bits(n))
 }
