@@ -1,6 +1,9 @@
 // Decimal numbers of replay lines: read from a field, and written.
 ghost use mathlib.Core.Path.{_≡_};
-ghost use Rattle.rules.specs.Replay.{numberSaid, weightSaid};
+ghost use Prim.Native.Nat.{_+_, _≤_};
+ghost use lib.ListN.{length};
+ghost use Rattle.rules.specs.Layout.{put};
+ghost use Rattle.rules.specs.Replay.{numberSaid, weightSaid, decimal};
 ghost use Rattle.decimals.specs.Reading.{number, weight, runSaid};
 
 const HALF: u64 = 9223372036854775808;
@@ -91,4 +94,41 @@ pub fn read_weight(field: &[u8]) -> Weight
         return Weight::Unread;
     };
     Weight::Is(values::from_bits(n))
+}
+
+// How many digits a number has.
+fn size(n: u64) -> usize
+    ensures { λ r. ⌜ r ≡ length (decimal n) ⌝ }
+{
+    let mut count = 1;
+    let mut rest = n;
+    while 10 <= rest {
+        rest = rest / 10;
+        count += 1;
+    }
+    count
+}
+
+// Writes a number's digits at `at`, the last first, where there is room for just these, and answers where they end.
+fn write_digits(out: &mut [u8], at: usize, n: u64) -> usize
+    requires { ⌜ at + length (decimal n) ≤ length (now out) ⌝ }
+    ensures { λ r. ⌜ (now (out .exit) ≡ put (now (out .entry)) at (decimal n)) × (r ≡ at + length (decimal n)) ⌝ }
+{
+    let count = size(n);
+    let mut j = count;
+    let mut rest = n;
+    while 0 < j {
+        out[at + (j - 1)] = (48 + rest % 10) as u8;
+        rest = rest / 10;
+        j -= 1;
+    }
+    at + count
+}
+
+// Writes a number in decimal at `at`, and answers where it ends.
+pub fn write_number(out: &mut [u8], at: usize, n: u64) -> usize
+    requires { ⌜ at + 20 ≤ length (now out) ⌝ }
+    ensures { λ r. ⌜ (now (out .exit) ≡ put (now (out .entry)) at (decimal n)) × (r ≡ at + length (decimal n)) ⌝ }
+{
+    write_digits(out, at, n)
 }
