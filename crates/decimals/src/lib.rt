@@ -3,7 +3,7 @@ ghost use mathlib.Core.Path.{_≡_};
 ghost use Prim.Native.Nat.{_+_, _≤_};
 ghost use lib.ListN.{length};
 ghost use Rattle.rules.specs.Layout.{put};
-ghost use Rattle.rules.specs.Replay.{numberSaid, weightSaid, decimal};
+ghost use Rattle.rules.specs.Replay.{numberSaid, weightSaid, decimal, signed};
 ghost use Rattle.decimals.specs.Reading.{number, weight, runSaid};
 
 const HALF: u64 = 9223372036854775808;
@@ -131,4 +131,17 @@ pub fn write_number(out: &mut [u8], at: usize, n: u64) -> usize
     ensures { λ r. ⌜ (now (out .exit) ≡ put (now (out .entry)) at (decimal n)) × (r ≡ at + length (decimal n)) ⌝ }
 {
     write_digits(out, at, n)
+}
+
+// Writes a signed number in decimal at `at`, and answers where it ends.
+pub fn write_signed(out: &mut [u8], at: usize, n: i64) -> usize
+    requires { ⌜ at + 20 ≤ length (now out) ⌝ }
+    ensures { λ r. ⌜ (now (out .exit) ≡ put (now (out .entry)) at (signed n)) × (r ≡ at + length (signed n)) ⌝ }
+{
+    let bits = values::to_bits(n);
+    if bits < HALF {
+        return write_digits(out, at, bits);
+    }
+    out[at] = 45;
+    write_digits(out, at + 1, TOP - bits + 1)
 }
