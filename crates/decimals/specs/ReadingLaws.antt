@@ -10,6 +10,7 @@ use lib.Seq.{drop-cons}
 use borrow.Author.Tests.{le-leb, lt-leb, eq-eqb, ne-eqb}
 use Rattle.rules.specs.Soundness.{every}
 use Rattle.rules.specs.Replay.{says, unread, isDigit, digitsFrom, isDecimal, numberSaid}
+use Rattle.laws.specs.Booleans.{and-true}
 use Rattle.decimals.specs.Reading.{runSaid}
 
 -- ---- a run of digits
@@ -87,11 +88,7 @@ number-empty most (b ∷ l) h = absurd (omega arith)
 pub number-one : (most : ℕ) (l : List ℕ) → length l ≡ 1 → runSaid most 0 l ≡ numberSaid most l
 unfolding numberSaid isDecimal runSaid every
 number-one most [] h = absurd (omega arith)
-number-one most (b ∷ []) h = ap (λ (t : Bool). cond (t && leb (digitsFrom 0 (b ∷ [])) most) (says (digitsFrom 0 (b ∷ []))) unread) (and-yes (isDigit b))
-  where
-    and-yes : (a : Bool) → (a && true) ≡ a
-    and-yes true = refl
-    and-yes false = refl
+number-one most (b ∷ []) h = ap (λ (t : Bool). cond (t && leb (digitsFrom 0 (b ∷ [])) most) (says (digitsFrom 0 (b ∷ []))) unread) (and-true (isDigit b))
 number-one most (b ∷ c ∷ l) h = absurd (omega arith)
 
 pub number-zero : (most : ℕ) (l : List ℕ) → 1 < length l → getD l 0 0 ≡ 48 → unread ≡ numberSaid most l

@@ -21,7 +21,8 @@ same-length : tie.Need-same-length
 same-length c = search needs
 
 returns : tie.Need-returns
-returns c = let a = c .before .before .before .before .before .before .before .args in
+returns c =
+    let a = c .before .before .before .before .before .before .before .args in
     let e = signed-plus (c .before .before .before .before .before .before .before .fits .n) (c .before .before .before .before .before .to-bits .ensures) (c .before .before .before .before .if1 .taken) in
     (c .before .before .write-digits .ensures .0 ∙ ap (put (a .out .now) (a .at)) e, c .before .before .write-digits .ensures .1 ∙ ap (λ (s : List ℕ). a .at + length s) e)
 
@@ -44,10 +45,11 @@ same-length-2 : tie.Need-same-length-2
 same-length-2 c = omega (arith, length-set (c .before .before .before .before .before .before .before .args .out .now) (c .before .before .before .before .before .before .before .args .at) 45)
 
 returns-2 : tie.Need-returns-2
-returns-2 c = let a = c .before .before .before .before .before .before .before .args in
+returns-2 c =
+    let a = c .before .before .before .before .before .before .before .args in
     let e = signed-minus (c .before .before .before .before .before .before .before .fits .n) (c .before .before .before .before .before .to-bits .ensures) (c .before .before .before .before .if1 .left) in
     let m = magnitude-most (2 ^ 64 - 1 - c .before .before .before .before .before .to-bits .result + 1) (omega arith) in
-    (c .before .before .write-digits2 .ensures .0 ∙ put-behind (a .out .now) (a .at) 45 _ (omega arith) ∙ ap (put (a .out .now) (a .at)) e, omega (arith, ap length e))
+    (c .before .before .write-digits2 .ensures .0 ∙ put-behind (a .out .now) (a .at) _ _ (omega arith) ∙ ap (put (a .out .now) (a .at)) e, omega (arith, ap length e))
 
 pub write-signed-spec : {M : Type 1} → statement M
 write-signed-spec =
