@@ -8,3 +8,4 @@ pub mod Answer
 pub mod Checks
 pub mod Calls
 pub mod LeastLoss
+pub mod Replay
