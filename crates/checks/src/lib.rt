@@ -1,10 +1,20 @@
 // Checks 1 to 7, in the order of their numbers, those that a call's arguments allow. The first that fails refuses the call.
 ghost use mathlib.Core.Path.{_≡_};
-ghost use Rattle.rules.specs.Checks.{clockChecks, keyChecks, expireChecks, checkLifetime, checkKind, checkNil, storeChecks, checkInitial, incrChecks};
+ghost use Rattle.rules.specs.Checks.{_then_, checkClock, checkKey, clockChecks, keyChecks, expireChecks, checkLifetime, checkKind, checkNil, storeChecks, checkInitial, incrChecks};
 use rules::Check;
 use rules::Initial;
 use rules::Operation;
 use rules::Outcome;
+
+// Check 2: a clock.
+fn clock_argument(clock: u64) -> Check
+    ensures { λ r. ⌜ r ≡ checkClock clock ⌝ }
+{
+    if clock == 0 {
+        return Check::Refused(Outcome::ClockZero);
+    }
+    Check::Passed
+}
 
 // Checks 1 and 2: a sound memory, and a clock.
 pub fn of_clock(dir: &[u64], pool: &[u8], clock: u64) -> Check
@@ -13,17 +23,14 @@ pub fn of_clock(dir: &[u64], pool: &[u8], clock: u64) -> Check
     if !soundness::is_sound(dir, pool) {
         return Check::Refused(Outcome::NotSound);
     }
-    if clock == 0 {
-        return Check::Refused(Outcome::ClockZero);
-    }
-    Check::Passed
+    clock_argument(clock)
 }
 
-// Checks 1 to 4: also a key of 1 to 65,535 bytes.
-pub fn of_key(dir: &[u64], pool: &[u8], clock: u64, key: &[u8]) -> Check
-    ensures { λ r. ⌜ r ≡ keyChecks (now (dir .entry)) (now (pool .entry)) clock (now (key .entry)) ⌝ }
+// Checks 2 to 4, where the memory is known to be sound: a clock, and a key of 1 to 65,535 bytes.
+pub fn key_arguments(clock: u64, key: &[u8]) -> Check
+    ensures { λ r. ⌜ r ≡ (checkClock clock then checkKey (now (key .entry))) ⌝ }
 {
-    let first = of_clock(dir, pool, clock);
+    let first = clock_argument(clock);
     if let Check::Refused(o) = first {
         return Check::Refused(o);
     }
@@ -34,6 +41,16 @@ pub fn of_key(dir: &[u64], pool: &[u8], clock: u64, key: &[u8]) -> Check
         return Check::Refused(Outcome::KeyTooLong);
     }
     Check::Passed
+}
+
+// Checks 1 to 4.
+pub fn of_key(dir: &[u64], pool: &[u8], clock: u64, key: &[u8]) -> Check
+    ensures { λ r. ⌜ r ≡ keyChecks (now (dir .entry)) (now (pool .entry)) clock (now (key .entry)) ⌝ }
+{
+    if !soundness::is_sound(dir, pool) {
+        return Check::Refused(Outcome::NotSound);
+    }
+    key_arguments(clock, key)
 }
 
 // Check 7: an expiry that 64 bits hold.
@@ -83,19 +100,11 @@ fn of_nil(op: Operation, kind: u8) -> Check
     }
 }
 
-// Checks 1 to 7.
-pub fn of_store(
-    op: Operation,
-    dir: &[u64],
-    pool: &[u8],
-    clock: u64,
-    key: &[u8],
-    kind: u8,
-    lifetime: u64,
-) -> Check
-    ensures { λ r. ⌜ r ≡ storeChecks op (now (dir .entry)) (now (pool .entry)) clock (now (key .entry)) kind lifetime ⌝ }
+// Checks 2 to 7, where the memory is known to be sound.
+pub fn store_arguments(op: Operation, clock: u64, key: &[u8], kind: u8, lifetime: u64) -> Check
+    ensures { λ r. ⌜ r ≡ (checkClock clock then checkKey (now (key .entry)) then checkKind kind then checkNil op kind then checkLifetime clock lifetime) ⌝ }
 {
-    let first = of_key(dir, pool, clock, key);
+    let first = key_arguments(clock, key);
     if let Check::Refused(o) = first {
         return Check::Refused(o);
     }
@@ -108,6 +117,24 @@ pub fn of_store(
         return Check::Refused(o);
     }
     of_lifetime(clock, lifetime)
+}
+
+// Checks 1 to 7.
+pub fn of_store(
+    op: Operation,
+    dir: &[u64],
+    pool: &[u8],
+    clock: u64,
+    key: &[u8],
+    kind: u8,
+    lifetime: u64,
+) -> Check
+    ensures { λ r. ⌜ r ≡ storeChecks op (now (dir .entry)) (now (pool .entry)) clock (now (key .entry)) kind lifetime ⌝ }
+{
+    if !soundness::is_sound(dir, pool) {
+        return Check::Refused(Outcome::NotSound);
+    }
+    store_arguments(op, clock, key, kind, lifetime)
 }
 
 // Check 7 of an incr: the lifetime is read only with an initial number.

@@ -136,6 +136,17 @@ pub lifetime-fits : (clock lifetime : ℕ) (r : Bool) → r ≡ tooLate clock li
 unfolding checkLifetime
 lifetime-fits clock lifetime r e t = refuse-no ExpiryTooLate (tooLate clock lifetime) (sym e ∙ t)
 
+-- ---- the checks of a sound memory are those of the arguments
+
+module _ (dir pool : List ℕ) (t : sound dir pool ≡ true) where
+  pub key-behind : (clock : ℕ) (key : List ℕ) → keyChecks dir pool clock key ≡ (checkClock clock then checkKey key)
+  unfolding keyChecks clockChecks checkSound refuse _then_
+  key-behind clock key = rw t refl
+
+  pub store-behind : (op : Operation) (clock : ℕ) (key : List ℕ) (kind lifetime : ℕ) → storeChecks op dir pool clock key kind lifetime ≡ (checkClock clock then checkKey key then checkKind kind then checkNil op kind then checkLifetime clock lifetime)
+  unfolding storeChecks keyChecks clockChecks checkSound refuse _then_
+  store-behind op clock key kind lifetime = rw t refl
+
 -- ---- what passed checks say
 
 module _ (dir pool : List ℕ) (clock : ℕ) where

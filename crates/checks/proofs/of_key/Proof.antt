@@ -1,37 +1,24 @@
 -- `checks::of_key` meets its contract.
 use mathlib.Core.Path.{sym, _∙_}
-use Rattle.rules.specs.Checks.{keyChecks}
-use Rattle.laws.specs.ChecksLaws.{then-stop, then-on, key-empty, key-long, key-fits}
+use Rattle.rules.specs.Checks.{keyChecks, clockChecks}
+use Rattle.laws.specs.ChecksLaws.{then-stop, sound-not, key-behind}
+use borrow.Author.Tests.{not-false}
 use borrow.Author.Needs.{needs}
 use Rattle.checks.proofs.of_key.Statement.{statement}
 use Rattle.checks.proofs.of_key.Tie as tie
 
-of-clock-requires : tie.Need-of-clock-requires
-of-clock-requires c κs = search needs
-
-enum-known-first : tie.Need-enum-known-first
-enum-known-first c = search needs
+is-sound-requires : tie.Need-is-sound-requires
+is-sound-requires c κs = search needs
 
 returns : tie.Need-returns
-unfolding keyChecks
-returns c = then-stop _ _ _ (sym (c .before .first .given .1) ∙ c .before .before .before .of-clock .ensures)
+unfolding keyChecks clockChecks
+returns c = then-stop _ _ _ (then-stop _ _ _ (sound-not _ _ _ (c .before .is-sound .ensures) (c .if1 .taken)))
 
-enum-told : tie.Need-enum-told
-enum-told c = search needs
+key-arguments-requires : tie.Need-key-arguments-requires
+key-arguments-requires c κs = search needs
 
 returns-2 : tie.Need-returns-2
-unfolding keyChecks
-returns-2 c = then-on _ _ _ (sym (c .before .enum-told .given .1) ∙ c .before .before .before .of-clock .ensures) (key-empty _ (c .if1 .taken))
-
-returns-3 : tie.Need-returns-3
-unfolding keyChecks
-returns-3 c = then-on _ _ _ (sym (c .before .before .enum-told .given .1) ∙ c .before .before .before .before .of-clock .ensures) (key-long _ (c .before .if1 .left) (c .if2 .taken))
-
-returns-4 : tie.Need-returns-4
-unfolding keyChecks
-returns-4 c = then-on _ _ _ (sym (c .before .before .enum-told .given .1) ∙ c .before .before .before .before .of-clock .ensures) (key-fits _ (c .before .if1 .left) (c .if2 .left))
+returns-2 c = c .key-arguments .ensures ∙ sym (key-behind _ _ (sym (c .before .before .is-sound .ensures) ∙ not-false _ (c .before .if1 .left)) _ _)
 
 pub of-key-spec : {M : Type 1} → statement M
-of-key-spec =
-    tie.close
-    (tie.spec of-clock-requires enum-known-first returns enum-told returns-2 returns-3 returns-4)
+of-key-spec = tie.close (tie.spec is-sound-requires returns key-arguments-requires returns-2)
