@@ -224,11 +224,11 @@ valueShown f pool =
 abbrev pub tabbed : List ℕ → List ℕ → List ℕ
 tabbed field rest = field ++ (9 ∷ rest)
 
--- call, answer, kind, value, flags, rounds, removed; a line ends with byte 10
-unfoldable pub lineWritten : ℕ → LineDone → List ℕ
-lineWritten n d =
-    let f : Fields = fieldsOf (d .answer .outcome) in
-    tabbed (decimal n) (tabbed (decimal (f .answer)) (tabbed (decimal (f .kind)) (tabbed (valueShown f (d .after .pool)) (tabbed (decimal (f .flags)) (tabbed (decimal (d .answer .rounds)) (decimal (d .answer .removed) ++ (10 ∷ [])))))))
+-- call, answer, kind, value, flags, rounds, removed, of the call with the number n; a line ends with byte 10
+unfoldable pub lineWritten : ℕ → Answer → List ℕ → List ℕ
+lineWritten n a pool =
+    let f : Fields = fieldsOf (a .outcome) in
+    tabbed (decimal n) (tabbed (decimal (f .answer)) (tabbed (decimal (f .kind)) (tabbed (valueShown f pool) (tabbed (decimal (f .flags)) (tabbed (decimal (a .rounds)) (decimal (a .removed) ++ (10 ∷ [])))))))
 
 -- `call answer kind value flags rounds removed`
 abbrev pub header : List ℕ
@@ -248,7 +248,7 @@ linesDone n [] s = record { output = []; left = s }
 linesDone n (line ∷ lines) s =
     let d : LineDone = lineDone (callOf line) s in
     let w : Written = linesDone (n + 1) lines (d .after) in
-    record { output = lineWritten n d ++ w .output; left = w .left }
+    record { output = lineWritten n (d .answer) (d .after .pool) ++ w .output; left = w .left }
 
 -- "The whole output", and the memory afterwards, from a lent memory that no `fresh` has touched
 unfoldable pub replayOf : List ℕ → List ℕ → List ℕ → Written
