@@ -167,7 +167,7 @@ class Calls(Yard):
         self.yard.expire("a", 500)
         self.now = 1500
         self.assertEqual(self.yard.add("e", 5), Stored(0, 1, False))
-        self.assertEqual(self.yard.set("f", 6), Stored(1, 1, True))
+        self.assertEqual(self.yard.add("f", 6), Stored(1, 1, True))
         self.assertEqual(self.yard.replace("f", b"12345678"), PLAIN)
         self.assertEqual(self.yard.delete("f"), 0)
         self.assertEqual(self.yard.safe_add("g", 7), PLAIN)
@@ -253,6 +253,7 @@ class Refusals(Yard):
         before = self.memory()
         self.refuses(Outcome.KEY_TOO_LONG, self.yard.find, b"k" * 65_536)
         self.refuses(Outcome.NIL_REFUSED, self.yard.add, "a", None)
+        self.refuses(Outcome.NIL_REFUSED, self.yard.safe_add, "a", None)
         self.refuses(Outcome.NIL_REFUSED, self.yard.replace, "a", None)
         self.refuses(Outcome.EXPIRY_TOO_LATE, self.yard.set, "a", 1, lifetime=2**64 - 1)
         self.now = 0
@@ -268,6 +269,7 @@ class Refusals(Yard):
         for outcome, call, *arguments in [
             (Outcome.NOT_FOUND, self.yard.replace, "a", 1),
             (Outcome.EXISTS, self.yard.add, "c", 1),
+            (Outcome.EXISTS, self.yard.safe_add, "c", 1),
             (Outcome.NOT_NUMBER, self.yard.incr, "c"),
             (Outcome.SUM_TOO_LARGE, self.yard.incr, "d"),
             (Outcome.NO_MEMORY, self.yard.safe_add, "e", text_for(2)),

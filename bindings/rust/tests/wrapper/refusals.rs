@@ -160,6 +160,7 @@ fn refusals_after_the_sweep_tell_what_it_took_and_no_value() {
     assert_eq!(yard().incr(1500, b"d", 1, None).map(drop), swept(Refusal::SumTooLarge));
     let text = Value::Text(&[0; 64]);
     assert_eq!(yard().safe_set(1500, b"e", text, 0, 0).map(drop), swept(Refusal::NoMemory));
+    assert_eq!(yard().safe_add(1500, b"e", text, 0, 0).map(drop), swept(Refusal::NoMemory));
 }
 
 #[test]
