@@ -1,6 +1,7 @@
 //! A value: what is stored, and what is found.
 
-/// A value that is stored under a key or found there. A text is lent: by the caller to a store, by the pool to a look-up.
+/// A value that is stored under a key or found there. A text is lent: by the caller to a store, by the pool to a
+/// look-up.
 #[derive(Debug, Clone, Copy, PartialEq, Eq, Hash)]
 pub enum Value<'a> {
     /// No value: a `set` or `safe_set` of it deletes the entry, other stores refuse it. No look-up finds it.
