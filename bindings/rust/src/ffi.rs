@@ -1,4 +1,5 @@
 //! The library's functions as include/reefcandor.h declares them; what each does, and what its caller owes, stands there.
+#![allow(missing_docs)] // said once, in the header
 
 /// The ten words of an answer: outcome, rounds, removed, forced, stale, kind, flags, number (its bits), offset, length.
 pub type Words = [u64; 10];
