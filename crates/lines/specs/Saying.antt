@@ -1,0 +1,39 @@
+-- What the code's answers say, in the terms of chapter "Replay lines".
+use mathlib.Core.Path.{_≡_}
+use mathlib.Core.Bool.{Bool, true, not}
+use mathlib.Core.List.{List}
+use Prim.Native.Nat.{ℕ, _-_, _≤_, _<_}
+use lib.Dec.{eqb}
+use lib.ListN.{length, drop, getD}
+use Rattle.rules.specs.Layout.{part}
+use Rattle.rules.specs.Soundness.{every}
+use Rattle.rules.specs.Replay.{LineCall, freshes, sets, gets, deletes, unreadable}
+use Rattle.lines.specs.declared.Call.{Call}
+use Rattle.lines.specs.declared.Call.the-variants.{Fresh, Set, Get, Delete, Unreadable}
+
+-- the call that the places in a line stand for
+unfoldable pub said : List ℕ → Call → LineCall
+said line (Fresh cells) = freshes cells
+said line (Set clock key end kind number text text-end lifetime flags) = sets clock (part line key (end - key)) kind number (part line text (text-end - text)) lifetime flags
+said line (Get clock key) = gets clock (drop key line)
+said line (Delete clock key) = deletes clock (drop key line)
+said line Unreadable = unreadable
+
+-- the places lie in the line, and P is one that a memory may have
+unfoldable pub Inside : List ℕ → Call → Type 0
+Inside line (Fresh cells) = (1 ≤ cells) × (cells ≤ 1024)
+Inside line (Set clock key end kind number text text-end lifetime flags) = (key ≤ end) × (end ≤ length line) × (text ≤ text-end) × (text-end ≤ length line)
+Inside line (Get clock key) = key ≤ length line
+Inside line (Delete clock key) = key ≤ length line
+Inside line Unreadable = 0 ≤ length line
+
+-- a byte that is no tab
+abbrev pub plainByte : ℕ → Bool
+plainByte b = not (eqb b 9)
+
+-- a field from its first byte to its end: no tab stands in it, and one behind it or nothing
+pub record FieldEnd (line : List ℕ) (from end : ℕ) : Type 0 where
+  pub after : from ≤ end
+  pub inside : end ≤ length line
+  pub no-tab : every plainByte (part line from (end - from)) ≡ true
+  pub tab : end < length line → getD line end 0 ≡ 9
