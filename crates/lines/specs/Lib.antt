@@ -1,2 +1,4 @@
 pub mod Saying
 pub mod FieldLaws
+pub mod CallLaws
+pub mod SetLaws

@@ -7,9 +7,12 @@ use lib.Dec.{eqb}
 use lib.ListN.{length, drop, getD}
 use Rattle.rules.specs.Layout.{part}
 use Rattle.rules.specs.Soundness.{every}
-use Rattle.rules.specs.Replay.{LineCall, freshes, sets, gets, deletes, unreadable}
+use Rattle.rules.specs.Replay.{LineCall, freshes, sets, gets, deletes, unreadable, Said, says, unread}
+use Rattle.rules.specs.Replay as replay
 use Rattle.lines.specs.declared.Call.{Call}
 use Rattle.lines.specs.declared.Call.the-variants.{Fresh, Set, Get, Delete, Unreadable}
+use Rattle.lines.specs.declared.Value.{Value}
+use Rattle.lines.specs.declared.Value.the-variants.{Is, Unread}
 
 -- the call that the places in a line stand for
 unfoldable pub said : List ℕ → Call → LineCall
@@ -19,6 +22,10 @@ said line (Get clock key) = gets clock (drop key line)
 said line (Delete clock key) = deletes clock (drop key line)
 said line Unreadable = unreadable
 
+-- the bytes from a first one to before an end
+abbrev pub field : List ℕ → ℕ → ℕ → List ℕ
+field line from end = part line from (end - from)
+
 -- the places lie in the line, and P is one that a memory may have
 unfoldable pub Inside : List ℕ → Call → Type 0
 Inside line (Fresh cells) = (1 ≤ cells) × (cells ≤ 1024)
@@ -26,6 +33,24 @@ Inside line (Set clock key end kind number text text-end lifetime flags) = (key 
 Inside line (Get clock key) = key ≤ length line
 Inside line (Delete clock key) = key ≤ length line
 Inside line Unreadable = 0 ≤ length line
+
+-- a call in the line that says this
+pub record Means (line : List ℕ) (r : Call) (call : LineCall) : Type 0 where
+  pub is : said line r ≡ call
+  pub within : Inside line r
+
+-- what a value's field says: a number, and a text that stands in the line
+unfoldable pub value : List ℕ → Value → Said replay.Value
+value line (Is number text end) = says (record { number = number; text = field line text end })
+value line Unread = unread
+
+unfoldable pub ValueInside : List ℕ → Value → Type 0
+ValueInside line (Is number text end) = (text ≤ end) × (end ≤ length line)
+ValueInside line Unread = 0 ≤ length line
+
+pub record Tells (line : List ℕ) (r : Value) (v : Said replay.Value) : Type 0 where
+  pub is : value line r ≡ v
+  pub within : ValueInside line r
 
 -- a byte that is no tab
 abbrev pub plainByte : ℕ → Bool
