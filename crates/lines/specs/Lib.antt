@@ -2,3 +2,4 @@ pub mod Saying
 pub mod FieldLaws
 pub mod CallLaws
 pub mod SetLaws
+pub mod LineLaws

@@ -1,27 +1,19 @@
 -- `lines::parse` meets its contract.
-use mathlib.Core.Path.{_≡_, refl, sym, ap, _∙_}
-use mathlib.Core.List.{List, [], _∷_, _++_}
-use Prim.Native.Nat.{ℕ, zero, suc, _+_, _-_, _*_, _≤_, _<_}
+use Rattle.lines.specs.CallLaws.{none}
+use Rattle.lines.specs.LineLaws.{too-long, one, two, three, longer}
 use native.Mathlib.Omega.{arith}
-use lib.ListN.{length, take, drop, getD, set, length-set}
 use borrow.Author.Needs.{needs}
 use Rattle.lines.proofs.parse.Statement.{statement}
 use Rattle.lines.proofs.parse.Tie as tie
-use Rattle.lines.proofs.parse.Reads as reads
-use Rattle.lines.proofs.parse.Lts as lts
-use Rattle.lines.proofs.field_end.Reads as field-end-reads
-use Rattle.lines.proofs.read_fresh.Reads as read-fresh-reads
-use Rattle.lines.proofs.read_key.Reads as read-key-reads
-use Rattle.lines.proofs.read_long.Reads as read-long-reads
 
 returns : tie.Need-returns
-returns c = ?
+returns c = let m = none (too-long (c .before .before .args .line .now) (omega arith)) in (m .is, m .within)
 
 field-end-requires : tie.Need-field-end-requires
 field-end-requires c κs = search needs
 
 returns-2 : tie.Need-returns-2
-returns-2 c = ?
+returns-2 c = let m = none (one (omega arith) (c .before .field-end .ensures) (omega arith)) in (m .is, m .within)
 
 add-field-end : tie.Need-add-field-end
 add-field-end c = search needs
@@ -33,7 +25,7 @@ read-fresh-requires : tie.Need-read-fresh-requires
 read-fresh-requires c κs = search needs
 
 returns-3 : tie.Need-returns-3
-returns-3 c = ?
+returns-3 c = let m = two (omega arith) (c .before .before .before .before .field-end .ensures) (omega arith) (c .before .before .field-end2 .ensures) (omega arith) (c .read-fresh .ensures) in (m .is, m .within)
 
 add-field-end-2 : tie.Need-add-field-end-2
 add-field-end-2 c = search needs
@@ -45,13 +37,13 @@ read-key-requires : tie.Need-read-key-requires
 read-key-requires c κs = search needs
 
 returns-4 : tie.Need-returns-4
-returns-4 c = ?
+returns-4 c = let m = three (omega arith) (c .before .before .before .before .before .before .field-end .ensures) (omega arith) (c .before .before .before .before .field-end2 .ensures) (omega arith) (c .before .before .field-end3 .ensures) (omega arith) (c .read-key .ensures) in (m .is, m .within)
 
 read-long-requires : tie.Need-read-long-requires
 read-long-requires c κs = search needs
 
 returns-5 : tie.Need-returns-5
-returns-5 c = ?
+returns-5 c = let m = longer (omega arith) (c .before .before .before .before .before .before .field-end .ensures) (omega arith) (c .before .before .before .before .field-end2 .ensures) (omega arith) (c .before .before .field-end3 .ensures) (omega arith) (c .read-long .ensures) in (m .is, m .within)
 
 pub parse-spec : {M : Type 1} → statement M
 parse-spec =

@@ -5,10 +5,6 @@ use native.Mathlib.Omega.{arith}
 use borrow.Author.Needs.{needs}
 use Rattle.lines.proofs.read_fresh.Statement.{statement}
 use Rattle.lines.proofs.read_fresh.Tie as tie
-use Rattle.lines.proofs.read_fresh.Reads as reads
-use Rattle.lines.proofs.read_fresh.Lts as lts
-use Rattle.lines.proofs.read_field.Reads as read-field-reads
-use Rattle.words.proofs.equal.Reads as equal-reads
 
 sub-equal : tie.Need-sub-equal
 sub-equal c = search needs

@@ -4,10 +4,6 @@ use native.Mathlib.Omega.{arith}
 use borrow.Author.Needs.{needs}
 use Rattle.lines.proofs.read_key.Statement.{statement}
 use Rattle.lines.proofs.read_key.Tie as tie
-use Rattle.lines.proofs.read_key.Reads as reads
-use Rattle.lines.proofs.read_key.Lts as lts
-use Rattle.lines.proofs.read_field.Reads as read-field-reads
-use Rattle.words.proofs.equal.Reads as equal-reads
 
 read-field-requires : tie.Need-read-field-requires
 read-field-requires c κs = search needs

@@ -8,10 +8,6 @@ use native.Mathlib.Omega.{arith}
 use borrow.Author.Needs.{needs}
 use Rattle.lines.proofs.read_set.Statement.{statement}
 use Rattle.lines.proofs.read_set.Tie as tie
-use Rattle.lines.proofs.read_set.Reads as reads
-use Rattle.lines.proofs.read_set.Lts as lts
-use Rattle.lines.proofs.read_field.Reads as read-field-reads
-use Rattle.lines.proofs.read_value.Reads as read-value-reads
 
 add-read-field : tie.Need-add-read-field
 add-read-field c = search needs

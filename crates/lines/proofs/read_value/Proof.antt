@@ -6,10 +6,6 @@ use native.Mathlib.Omega.{arith}
 use borrow.Author.Needs.{needs}
 use Rattle.lines.proofs.read_value.Statement.{statement}
 use Rattle.lines.proofs.read_value.Tie as tie
-use Rattle.lines.proofs.read_value.Reads as reads
-use Rattle.lines.proofs.read_value.Lts as lts
-use Rattle.decimals.proofs.read_weight.Reads as read-weight-reads
-use Rattle.lines.proofs.read_field.Reads as read-field-reads
 
 read-field-requires : tie.Need-read-field-requires
 read-field-requires c κs = search needs
