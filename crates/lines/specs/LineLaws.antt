@@ -4,13 +4,13 @@ use mathlib.Core.Bool.{Bool, true, false, not, cond}
 use mathlib.Core.List.{List, [], _∷_, _++_}
 use Prim.Native.Nat.{ℕ, _+_, _≤_, _<_}
 use native.Mathlib.Omega.{arith}
-use lib.Dec.{eqb, leb}
+use lib.Dec.{eqb}
 use lib.ListN.{length, drop}
 use borrow.Author.Tests.{not-true, not-false, le-leb, lt-leb}
 use Rattle.rules.specs.LookUp.{same}
 use Rattle.rules.specs.Replay.{LineCall, unreadable, numberSaid, setWord, kindSaid, partsFrom, partsOf, partsSay, callOf}
 use Rattle.lines.specs.declared.Call.{Call}
-use Rattle.lines.specs.Saying.{said, Inside, field, Means, FieldEnd}
+use Rattle.lines.specs.Saying.{field, twoFields, threeFields, moreFields, Means, FieldEnd}
 use Rattle.lines.specs.FieldLaws.{parts-more, parts-last}
 
 means-by : {line : List ℕ} {r : Call} {a b : LineCall} → a ≡ b → Means line r b → Means line r a
@@ -88,7 +88,7 @@ module _ {line : List ℕ} (h : length line ≤ 4096) {a : ℕ} (fa : FieldEnd l
   one i = whole (field line 0 a ∷ []) (parts-last fa i)
 
   module _ (ha : a < length line) {b : ℕ} (fb : FieldEnd line (a + 1) b) where
-    pub two : {r : Call} → length line ≤ b → Means line r (partsSay (field line 0 a ∷ field line (a + 1) (length line) ∷ [])) → Means line r (callOf line)
+    pub two : {r : Call} → length line ≤ b → Means line r (twoFields line a) → Means line r (callOf line)
     two i m = means-by (whole (field line 0 a ∷ field line (a + 1) (length line) ∷ []) (parts-more fa ha ∙ ap (λ (s : List (List ℕ)). field line 0 a ∷ s) (last-field fb i))) m
 
     module _ (hb : b < length line) where
@@ -97,8 +97,8 @@ module _ {line : List ℕ} (h : length line ≤ 4096) {a : ℕ} (fa : FieldEnd l
           whole (field line 0 a ∷ field line (a + 1) b ∷ s) (parts-more fa ha ∙ ap (λ (q : List (List ℕ)). field line 0 a ∷ q) (parts-more fb hb ∙ ap (λ (q : List (List ℕ)). field line (a + 1) b ∷ q) e))
 
       module _ {c : ℕ} (fc : FieldEnd line (b + 1) c) where
-        pub three : {r : Call} → length line ≤ c → Means line r (partsSay (field line 0 a ∷ field line (a + 1) b ∷ field line (b + 1) (length line) ∷ [])) → Means line r (callOf line)
+        pub three : {r : Call} → length line ≤ c → Means line r (threeFields line a b) → Means line r (callOf line)
         three i m = means-by (behind (field line (b + 1) (length line) ∷ []) (last-field fc i)) m
 
-        pub longer : {r : Call} → c < length line → Means line r (partsSay (field line 0 a ∷ field line (a + 1) b ∷ field line (b + 1) c ∷ partsOf (drop (c + 1) line))) → Means line r (callOf line)
+        pub longer : {r : Call} → c < length line → Means line r (moreFields line a b c) → Means line r (callOf line)
         longer i m = means-by (behind (field line (b + 1) c ∷ partsOf (drop (c + 1) line)) (parts-more fc i)) m

@@ -1,11 +1,10 @@
 // What a replay line says: its fields, and the call that they make.
 ghost use mathlib.Core.Path.{_≡_};
-ghost use mathlib.Core.List.{[], _∷_};
-ghost use Prim.Native.Nat.{_+_, _≤_, _<_};
-ghost use lib.ListN.{length, drop};
-ghost use Rattle.rules.specs.Replay.{numberSaid, valueSaid, kindSaid, partsOf, partsSay, callOf};
+ghost use Prim.Native.Nat.{_≤_, _<_};
+ghost use lib.ListN.{length};
+ghost use Rattle.rules.specs.Replay.{numberSaid, valueSaid, callOf};
 ghost use Rattle.decimals.specs.Reading.{number};
-ghost use Rattle.lines.specs.Saying.{said, Inside, field, Means, Tells, FieldEnd};
+ghost use Rattle.lines.specs.Saying.{said, Inside, field, twoFields, threeFields, moreFields, setFields, Means, Tells, FieldEnd};
 use decimals::Number;
 use decimals::Weight;
 
@@ -70,13 +69,12 @@ fn read_field(line: &[u8], from: usize, end: usize, most: u64) -> Number
 // Two fields, parted by a tab at `a`: `fresh` and P.
 fn read_fresh(line: &[u8], a: usize) -> Call
     requires { ⌜ a < length (now line) ⌝ }
-    ensures { λ r. ⌜ Means (now (line .entry)) r (partsSay (field (now (line .entry)) 0 a ∷ field (now (line .entry)) (a + 1) (length (now (line .entry))) ∷ [])) ⌝ }
+    ensures { λ r. ⌜ Means (now (line .entry)) r (twoFields (now (line .entry)) a) ⌝ }
 {
     if !words::equal(&line[0..a], b"fresh") {
         return Call::Unreadable;
     }
-    let cells = read_field(line, a + 1, line.len(), 1024);
-    let Number::Is(p) = cells else {
+    let Number::Is(p) = read_field(line, a + 1, line.len(), 1024) else {
         return Call::Unreadable;
     };
     if p == 0 {
@@ -88,10 +86,9 @@ fn read_fresh(line: &[u8], a: usize) -> Call
 // Three fields, parted by tabs at `a` and `b`: the clock, `get` or `delete`, and the key.
 fn read_key(line: &[u8], a: usize, b: usize) -> Call
     requires { ⌜ (a < b) × (b < length (now line)) ⌝ }
-    ensures { λ r. ⌜ Means (now (line .entry)) r (partsSay (field (now (line .entry)) 0 a ∷ field (now (line .entry)) (a + 1) b ∷ field (now (line .entry)) (b + 1) (length (now (line .entry))) ∷ [])) ⌝ }
+    ensures { λ r. ⌜ Means (now (line .entry)) r (threeFields (now (line .entry)) a b) ⌝ }
 {
-    let time = read_field(line, 0, a, TOP);
-    let Number::Is(clock) = time else {
+    let Number::Is(clock) = read_field(line, 0, a, TOP) else {
         return Call::Unreadable;
     };
     let word = a + 1;
@@ -110,15 +107,13 @@ fn read_value(line: &[u8], from: usize, end: usize, kind: u64) -> Value
     ensures { λ r. ⌜ Tells (now (line .entry)) r (valueSaid kind (field (now (line .entry)) from end)) ⌝ }
 {
     if kind == 1 {
-        let boolean = read_field(line, from, end, 1);
-        let Number::Is(n) = boolean else {
+        let Number::Is(n) = read_field(line, from, end, 1) else {
             return Value::Unread;
         };
         return Value::Is(n as i64, 0, 0);
     }
     if kind == 3 {
-        let weight = decimals::read_weight(&line[from..end]);
-        let Weight::Is(n) = weight else {
+        let Weight::Is(n) = decimals::read_weight(&line[from..end]) else {
             return Value::Unread;
         };
         return Value::Is(n, 0, 0);
@@ -132,26 +127,21 @@ fn read_value(line: &[u8], from: usize, end: usize, kind: u64) -> Value
 // Seven fields, parted by tabs at `a` to `f`, of which the second is `set`: clock, key, kind, value, lifetime, flags.
 fn read_set(line: &[u8], a: usize, b: usize, c: usize, d: usize, e: usize, f: usize) -> Call
     requires { ⌜ (a < b) × (b < c) × (c < d) × (d < e) × (e < f) × (f < length (now line)) ⌝ }
-    ensures { λ r. ⌜ Means (now (line .entry)) r (kindSaid (field (now (line .entry)) 0 a) (field (now (line .entry)) (b + 1) c) (numberSaid 255 (field (now (line .entry)) (c + 1) d)) (field (now (line .entry)) (d + 1) e) (field (now (line .entry)) (e + 1) f) (field (now (line .entry)) (f + 1) (length (now (line .entry))))) ⌝ }
+    ensures { λ r. ⌜ Means (now (line .entry)) r (setFields (now (line .entry)) a b c d e f) ⌝ }
 {
-    let sort = read_field(line, c + 1, d, 255);
-    let Number::Is(kind) = sort else {
+    let Number::Is(kind) = read_field(line, c + 1, d, 255) else {
         return Call::Unreadable;
     };
-    let time = read_field(line, 0, a, TOP);
-    let Number::Is(clock) = time else {
+    let Number::Is(clock) = read_field(line, 0, a, TOP) else {
         return Call::Unreadable;
     };
-    let what = read_value(line, d + 1, e, kind);
-    let Value::Is(number, text, text_end) = what else {
+    let Value::Is(number, text, text_end) = read_value(line, d + 1, e, kind) else {
         return Call::Unreadable;
     };
-    let span = read_field(line, e + 1, f, TOP);
-    let Number::Is(lifetime) = span else {
+    let Number::Is(lifetime) = read_field(line, e + 1, f, TOP) else {
         return Call::Unreadable;
     };
-    let marks = read_field(line, f + 1, line.len(), 4294967295);
-    let Number::Is(flags) = marks else {
+    let Number::Is(flags) = read_field(line, f + 1, line.len(), 4294967295) else {
         return Call::Unreadable;
     };
     Call::Set {
@@ -170,7 +160,7 @@ fn read_set(line: &[u8], a: usize, b: usize, c: usize, d: usize, e: usize, f: us
 // More than three fields, the first three before tabs at `a`, `b` and `c`: it takes `set`, and four fields more.
 fn read_long(line: &[u8], a: usize, b: usize, c: usize) -> Call
     requires { ⌜ (a < b) × (b < c) × (c < length (now line)) ⌝ }
-    ensures { λ r. ⌜ Means (now (line .entry)) r (partsSay (field (now (line .entry)) 0 a ∷ field (now (line .entry)) (a + 1) b ∷ field (now (line .entry)) (b + 1) c ∷ partsOf (drop (c + 1) (now (line .entry))))) ⌝ }
+    ensures { λ r. ⌜ Means (now (line .entry)) r (moreFields (now (line .entry)) a b c) ⌝ }
 {
     let d = field_end(line, c + 1);
     if d == line.len() {

@@ -3,7 +3,6 @@ use Rattle.lines.specs.FieldLaws.{Passed, passed-none, passed-more, pass
 use Prim.Native.Nat.{_-_}
 use native.Mathlib.Omega.{arith}
 use lib.ListN.{length}
-use borrow.Author.Needs.{needs}
 use Rattle.lines.proofs.field_end.Statement.{statement}
 use Rattle.lines.proofs.field_end.Tie as tie
 
