@@ -12,7 +12,7 @@ use Rattle.rules.specs.Layout.{part}
 use Rattle.rules.specs.Soundness.{every}
 use Rattle.rules.specs.Replay.{partsFrom, partsOf}
 use Rattle.laws.specs.Booleans.{and-left, and-right, and-true}
-use Rattle.lines.specs.Saying.{plainByte, FieldEnd}
+use Rattle.lines.specs.Saying.{field, plainByte, FieldEnd}
 
 -- ---- the bytes of a field, passed one by one
 
@@ -66,7 +66,7 @@ parts-plain begun (b ∷ a) rest e =
     ∙ ap (λ (x : List ℕ). partsFrom x rest) (append-assoc begun (b ∷ []) a)
 
 module _ {line : List ℕ} {from end : ℕ} (f : FieldEnd line from end) where
-  split : partsOf (drop from line) ≡ partsFrom (part line from (end - from)) (drop end line)
+  split : partsOf (drop from line) ≡ partsFrom (field line from end) (drop end line)
   unfolding partsOf
   split =
       let k : ℕ = end - from in
@@ -75,15 +75,18 @@ module _ {line : List ℕ} {from end : ℕ} (f : FieldEnd line from end) where
       ∙ parts-plain [] (part line from k) (drop end line) (f .no-tab)
 
   -- a tab behind the field: it is one, and others follow
-  pub parts-more : end < length line → partsOf (drop from line) ≡ part line from (end - from) ∷ partsOf (drop (end + 1) line)
+  pub parts-more : {rest : List (List ℕ)} → end < length line → partsOf (drop (end + 1) line) ≡ rest → partsOf (drop from line) ≡ field line from end ∷ rest
   unfolding partsOf partsFrom
-  parts-more h =
+  parts-more h r =
       let e : suc end ≡ end + 1 = omega arith in
       split
-      ∙ ap (partsFrom (part line from (end - from))) (drop-cons line end 0 h ∙ ap (λ (b : ℕ). b ∷ drop (suc end) line) (f .tab h))
-      ∙ ap (λ (m : ℕ). part line from (end - from) ∷ partsFrom [] (drop m line)) e
+      ∙ ap (partsFrom (field line from end)) (drop-cons line end 0 h ∙ ap (λ (b : ℕ). b ∷ drop (suc end) line) (f .tab h))
+      ∙ ap (λ (m : ℕ). field line from end ∷ partsFrom [] (drop m line)) e
+      ∙ ap (λ (x : List (List ℕ)). field line from end ∷ x) r
 
   -- the last field
-  pub parts-last : length line ≤ end → partsOf (drop from line) ≡ part line from (end - from) ∷ []
+  pub parts-last : length line ≤ end → partsOf (drop from line) ≡ field line from (length line) ∷ []
   unfolding partsFrom
-  parts-last h = split ∙ ap (partsFrom (part line from (end - from))) (drop-of-length-le line {i = end} h)
+  parts-last h =
+      let e : end ≡ length line = omega (arith, f .inside) in
+      split ∙ ap (partsFrom (field line from end)) (drop-of-length-le line {i = end} h) ∙ ap (λ (n : ℕ). field line from n ∷ []) e

@@ -3,7 +3,6 @@ use mathlib.Core.Path.{_≡_, refl, sym, ap, _∙_}
 use mathlib.Core.Bool.{Bool, true, false, not, cond}
 use mathlib.Core.List.{List, [], _∷_, _++_}
 use Prim.Native.Nat.{ℕ, _+_, _≤_, _<_}
-use native.Mathlib.Omega.{arith}
 use lib.Dec.{eqb}
 use lib.ListN.{length, drop}
 use borrow.Author.Tests.{not-true, not-false, le-leb, lt-leb}
@@ -15,12 +14,6 @@ use Rattle.lines.specs.FieldLaws.{parts-more, parts-last}
 
 means-by : {line : List ℕ} {r : Call} {a b : LineCall} → a ≡ b → Means line r b → Means line r a
 means-by e m = record { is = m .is ∙ sym e; within = m .within }
-
--- the last field ends with the line
-last-field : {line : List ℕ} {from end : ℕ} → FieldEnd line from end → length line ≤ end → partsOf (drop from line) ≡ field line from (length line) ∷ []
-last-field {line} {from} {end} f h =
-    let e : end ≡ length line = omega (arith, f .inside) in
-    parts-last f h ∙ ap (λ (n : ℕ). field line from n ∷ []) e
 
 -- ---- more than three fields
 
@@ -35,35 +28,35 @@ eight a b c d e f g begun (x ∷ l) = by (eqb x 9) (eight a b c d e f g (begun +
     by false i = i
 
 module _ {line : List ℕ} (x y z : List ℕ) {p d : ℕ} (fd : FieldEnd line p d) where
+  ahead : (r : List (List ℕ)) → partsOf (drop p line) ≡ r → partsSay (x ∷ y ∷ z ∷ partsOf (drop p line)) ≡ partsSay (x ∷ y ∷ z ∷ r)
+  ahead r e = ap (λ (s : List (List ℕ)). partsSay (x ∷ y ∷ z ∷ s)) e
+
   pub four : length line ≤ d → partsSay (x ∷ y ∷ z ∷ partsOf (drop p line)) ≡ unreadable
   unfolding partsSay
-  four h = ap (λ (r : List (List ℕ)). partsSay (x ∷ y ∷ z ∷ r)) (parts-last fd h)
+  four h = ahead _ (parts-last fd h)
 
   module _ (hd : d < length line) {e : ℕ} (fe : FieldEnd line (d + 1) e) where
     pub five : length line ≤ e → partsSay (x ∷ y ∷ z ∷ partsOf (drop p line)) ≡ unreadable
     unfolding partsSay
-    five h = ap (λ (r : List (List ℕ)). partsSay (x ∷ y ∷ z ∷ r)) (parts-more fd hd ∙ ap (λ (r : List (List ℕ)). field line p d ∷ r) (parts-last fe h))
+    five h = ahead _ (parts-more fd hd (parts-last fe h))
 
     module _ (he : e < length line) {f : ℕ} (ff : FieldEnd line (e + 1) f) where
-      upto : (r : List (List ℕ)) → partsOf (drop (e + 1) line) ≡ r → partsSay (x ∷ y ∷ z ∷ partsOf (drop p line)) ≡ partsSay (x ∷ y ∷ z ∷ field line p d ∷ field line (d + 1) e ∷ r)
-      upto r i = ap (λ (s : List (List ℕ)). partsSay (x ∷ y ∷ z ∷ s)) (parts-more fd hd ∙ ap (λ (s : List (List ℕ)). field line p d ∷ s) (parts-more fe he ∙ ap (λ (s : List (List ℕ)). field line (d + 1) e ∷ s) i))
-
       pub six : length line ≤ f → partsSay (x ∷ y ∷ z ∷ partsOf (drop p line)) ≡ unreadable
       unfolding partsSay
-      six h = upto (field line (e + 1) f ∷ []) (parts-last ff h)
+      six h = ahead _ (parts-more fd hd (parts-more fe he (parts-last ff h)))
 
       module _ (hf : f < length line) {g : ℕ} (fg : FieldEnd line (f + 1) g) where
         pub many : g < length line → partsSay (x ∷ y ∷ z ∷ partsOf (drop p line)) ≡ unreadable
         unfolding partsOf
         many h =
-            upto (field line (e + 1) f ∷ field line (f + 1) g ∷ partsOf (drop (g + 1) line)) (parts-more ff hf ∙ ap (λ (s : List (List ℕ)). field line (e + 1) f ∷ s) (parts-more fg h))
+            ahead _ (parts-more fd hd (parts-more fe he (parts-more ff hf (parts-more fg h refl))))
             ∙ eight x y z (field line p d) (field line (d + 1) e) (field line (e + 1) f) (field line (f + 1) g) [] (drop (g + 1) line)
 
         module _ (h : length line ≤ g) {w : Bool} (i : w ≡ same y setWord) where
           seven : (t : Bool) → w ≡ t → partsSay (x ∷ y ∷ z ∷ partsOf (drop p line)) ≡ cond t (kindSaid x z (numberSaid 255 (field line p d)) (field line (d + 1) e) (field line (e + 1) f) (field line (f + 1) (length line))) unreadable
           unfolding partsSay
           seven t j =
-              upto (field line (e + 1) f ∷ field line (f + 1) (length line) ∷ []) (parts-more ff hf ∙ ap (λ (s : List (List ℕ)). field line (e + 1) f ∷ s) (last-field fg h))
+              ahead _ (parts-more fd hd (parts-more fe he (parts-more ff hf (parts-last fg h))))
               ∙ ap (λ (s : Bool). cond s (kindSaid x z (numberSaid 255 (field line p d)) (field line (d + 1) e) (field line (e + 1) f) (field line (f + 1) (length line))) unreadable) (sym i ∙ j)
 
           pub seven-other : not w ≡ true → partsSay (x ∷ y ∷ z ∷ partsOf (drop p line)) ≡ unreadable
@@ -85,20 +78,15 @@ module _ {line : List ℕ} (h : length line ≤ 4096) {a : ℕ} (fa : FieldEnd l
 
   pub one : length line ≤ a → callOf line ≡ unreadable
   unfolding partsSay
-  one i = whole (field line 0 a ∷ []) (parts-last fa i)
+  one i = whole _ (parts-last fa i)
 
   module _ (ha : a < length line) {b : ℕ} (fb : FieldEnd line (a + 1) b) where
     pub two : {r : Call} → length line ≤ b → Means line r (twoFields line a) → Means line r (callOf line)
-    two i m = means-by (whole (field line 0 a ∷ field line (a + 1) (length line) ∷ []) (parts-more fa ha ∙ ap (λ (s : List (List ℕ)). field line 0 a ∷ s) (last-field fb i))) m
+    two i m = means-by (whole _ (parts-more fa ha (parts-last fb i))) m
 
-    module _ (hb : b < length line) where
-      behind : (s : List (List ℕ)) → partsOf (drop (b + 1) line) ≡ s → callOf line ≡ partsSay (field line 0 a ∷ field line (a + 1) b ∷ s)
-      behind s e =
-          whole (field line 0 a ∷ field line (a + 1) b ∷ s) (parts-more fa ha ∙ ap (λ (q : List (List ℕ)). field line 0 a ∷ q) (parts-more fb hb ∙ ap (λ (q : List (List ℕ)). field line (a + 1) b ∷ q) e))
+    module _ (hb : b < length line) {c : ℕ} (fc : FieldEnd line (b + 1) c) where
+      pub three : {r : Call} → length line ≤ c → Means line r (threeFields line a b) → Means line r (callOf line)
+      three i m = means-by (whole _ (parts-more fa ha (parts-more fb hb (parts-last fc i)))) m
 
-      module _ {c : ℕ} (fc : FieldEnd line (b + 1) c) where
-        pub three : {r : Call} → length line ≤ c → Means line r (threeFields line a b) → Means line r (callOf line)
-        three i m = means-by (behind (field line (b + 1) (length line) ∷ []) (last-field fc i)) m
-
-        pub longer : {r : Call} → c < length line → Means line r (moreFields line a b c) → Means line r (callOf line)
-        longer i m = means-by (behind (field line (b + 1) c ∷ partsOf (drop (c + 1) line)) (parts-more fc i)) m
+      pub longer : {r : Call} → c < length line → Means line r (moreFields line a b c) → Means line r (callOf line)
+      longer i m = means-by (whole _ (parts-more fa ha (parts-more fb hb (parts-more fc i refl)))) m
