@@ -7,6 +7,7 @@ use native.Mathlib.Omega.{arith}
 use lib.Dec.{eqb, leb}
 use lib.ListN.{length, take, drop}
 use borrow.Author.Tests.{ne-eqb, eq-eqb, leb-true}
+use Rattle.rules.specs.declared.Answer.{Answer}
 use Rattle.rules.specs.declared.Operation.the-variants.{Set}
 use Rattle.rules.specs.Calls.{Result, freshCall, storeCall, getCall, deleteCall}
 use Rattle.rules.specs.Replay.{Replay, LineCall, freshes, sets, gets, deletes, unreadable, LineDone, onFront, called, freshened, lineDone, frontDir, frontPool}
@@ -51,3 +52,12 @@ ready-line (sets clock key kind number text lifetime flags) f s r =
 ready-line (gets clock key) f s r = ready-called (get clock key) (λ dir pool. getCall dir pool clock key) (λ d p. refl) (s .cells) (s .dir) (s .pool) r
 ready-line (deletes clock key) f s r = ready-called (delete clock key) (λ dir pool. deleteCall dir pool clock key) (λ d p. refl) (s .cells) (s .dir) (s .pool) r
 ready-line unreadable f s r = r
+
+-- ---- a line's call done: its answer, what it leaves, and that this is ready
+
+pub record Runs (c : LineCall) (s : Replay) (a : Answer) (after : Replay) : Type 0 where
+  pub done : record { answer = a; after = after } ≡ lineDone c s
+  pub ready : ReadyState after
+
+pub runs : {c : LineCall} {s after : Replay} {a : Answer} → FineCall c → ReadyState s → record { answer = a; after = after } ≡ lineDone c s → Runs c s a after
+runs {c} {s} {after} {a} f r e = record { done = e; ready = subst ReadyState (sym (ap (λ (d : LineDone). d .after) e)) (ready-line c f s r) }

@@ -2,9 +2,12 @@
 ghost use mathlib.Core.Path.{_≡_};
 ghost use Prim.Native.Nat.{_≤_};
 ghost use Rattle.rules.specs.Calls.{getCall, deleteCall, storeCall, freshCall};
-ghost use Rattle.rules.specs.Replay.{called, freshened};
+ghost use Rattle.rules.specs.Replay.{called, freshened, lineDone};
 ghost use Rattle.rules.specs.declared.Operation.the-variants.{Set};
+ghost use Rattle.lines.specs.Saying.{said, Inside};
 ghost use Rattle.replay.specs.Front.{Ready, doneAs, state};
+ghost use Rattle.replay.specs.Ready.{Runs};
+use lines::Call;
 use rules::Answer;
 use rules::Check;
 use rules::Operation;
@@ -119,5 +122,53 @@ fn do_fresh(dir: &mut [u64], pool: &mut [u8], cells: usize, count: usize) -> Ran
     Ran {
         cells: count,
         answer,
+    }
+}
+
+// What the line does that makes this call.
+fn do_call(dir: &mut [u64], pool: &mut [u8], cells: usize, line: &[u8], call: Call) -> Ran
+    requires { ⌜ Ready cells (now dir) (now pool) ⌝ }
+    requires { ⌜ Inside (now line) call ⌝ }
+    ensures { λ r. ⌜ Runs (said (now (line .entry)) call) (state cells (now (dir .entry)) (now (pool .entry))) (r .answer) (state (r .cells) (now (dir .exit)) (now (pool .exit))) ⌝ }
+{
+    match call {
+        Call::Fresh { cells: count } => do_fresh(dir, pool, cells, count),
+        Call::Set {
+            clock,
+            key,
+            key_end,
+            kind,
+            number,
+            text,
+            text_end,
+            lifetime,
+            flags,
+        } => {
+            let answer = do_set(
+                dir,
+                pool,
+                cells,
+                clock,
+                &line[key..key_end],
+                kind,
+                number,
+                &line[text..text_end],
+                lifetime,
+                flags,
+            );
+            Ran { cells, answer }
+        }
+        Call::Get { clock, key } => Ran {
+            cells,
+            answer: do_get(dir, pool, cells, clock, &line[key..]),
+        },
+        Call::Delete { clock, key } => Ran {
+            cells,
+            answer: do_delete(dir, pool, cells, clock, &line[key..]),
+        },
+        Call::Unreadable => Ran {
+            cells,
+            answer: Answer::plain(Outcome::LineUnreadable, 0),
+        },
     }
 }
