@@ -1,12 +1,10 @@
 -- What the code's answers say, in the terms of chapter "Replay lines".
 use mathlib.Core.Path.{_≡_}
-use mathlib.Core.Bool.{Bool, true, not}
 use mathlib.Core.List.{List, [], _∷_}
-use Prim.Native.Nat.{ℕ, _+_, _-_, _≤_, _<_}
-use lib.Dec.{eqb}
-use lib.ListN.{length, drop, getD}
+use Prim.Native.Nat.{ℕ, _+_, _-_, _≤_}
+use lib.ListN.{length, drop}
 use Rattle.rules.specs.Layout.{part}
-use Rattle.rules.specs.Soundness.{every}
+use Rattle.scanning.specs.Until.{Until}
 use Rattle.rules.specs.Replay.{LineCall, freshes, sets, gets, deletes, unreadable, Said, says, unread, numberSaid, kindSaid, partsOf, partsSay}
 use Rattle.rules.specs.Replay as replay
 use Rattle.lines.specs.declared.Call.{Call}
@@ -71,13 +69,6 @@ pub record Tells (line : List ℕ) (r : Value) (v : Said replay.Value) : Type 0 
   pub is : value line r ≡ v
   pub within : ValueInside line r
 
--- a byte that is no tab
-abbrev pub plainByte : ℕ → Bool
-plainByte b = not (eqb b 9)
-
 -- a field from its first byte to its end: no tab stands in it, and one behind it or nothing
-pub record FieldEnd (line : List ℕ) (from end : ℕ) : Type 0 where
-  pub after : from ≤ end
-  pub inside : end ≤ length line
-  pub no-tab : every plainByte (part line from (end - from)) ≡ true
-  pub tab : end < length line → getD line end 0 ≡ 9
+abbrev pub FieldEnd : List ℕ → ℕ → ℕ → Type 0
+FieldEnd line from end = Until 9 line from end

@@ -48,14 +48,7 @@ fn field_end(line: &[u8], from: usize) -> usize
     requires { ⌜ from ≤ length (now line) ⌝ }
     ensures { λ r. ⌜ FieldEnd (now (line .entry)) from r ⌝ }
 {
-    let mut i = from;
-    while i < line.len() {
-        if line[i] == 9 {
-            return i;
-        }
-        i += 1;
-    }
-    i
+    scanning::find(line, from, 9)
 }
 
 // The number that a field says, from 0 to `most`.

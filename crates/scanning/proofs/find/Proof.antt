@@ -1,25 +1,25 @@
--- `lines::field_end` meets its contract. The loop's invariant: no tab stands from the field's first byte to before i.
-use Rattle.lines.specs.FieldLaws.{Passed, passed-none, passed-more, passed-tab, passed-all}
+-- `scanning::find` meets its contract. The loop's invariant: the byte stands nowhere from `from` to before i.
+use Rattle.scanning.specs.UntilLaws.{Passed, passed-none, passed-more, passed-byte, passed-all}
 use Prim.Native.Nat.{_-_}
 use native.Mathlib.Omega.{arith}
 use lib.ListN.{length}
-use Rattle.lines.proofs.field_end.Statement.{statement}
-use Rattle.lines.proofs.field_end.Tie as tie
+use Rattle.scanning.proofs.find.Statement.{statement}
+use Rattle.scanning.proofs.find.Tie as tie
 
 abbrev Inv-loop : tie.InvT-loop
-Inv-loop line from i₀ i = Passed line from i
+Inv-loop bytes from byte i₀ i = Passed byte bytes from i
 
 abbrev μ-loop : tie.MeasureT-loop
-μ-loop line from i₀ i = length line - i
+μ-loop bytes from byte i₀ i = length bytes - i
 
 loop-holds : tie.Need-loop-holds Inv-loop μ-loop
-loop-holds c = passed-none (c .pre)
+loop-holds c = passed-none _ (c .pre)
 
 shared-slice-read-if1 : tie.Need-shared-slice-read-if1 Inv-loop μ-loop
 shared-slice-read-if1 c = omega arith
 
 returns : tie.Need-returns Inv-loop μ-loop
-returns c = passed-tab (c .before .before .before .loop .inv) (c .if1 .taken)
+returns c = passed-byte (c .before .before .before .loop .inv) (c .if1 .taken)
 
 add-i : tie.Need-add-i Inv-loop μ-loop
 add-i c = omega arith
@@ -33,8 +33,8 @@ loop-again c = passed-more (c .before .before .before .loop .inv) (omega arith) 
 returns-2 : tie.Need-returns-2 Inv-loop μ-loop
 returns-2 c = passed-all (c .before .loop .inv) (omega arith)
 
-pub field-end-spec : {M : Type 1} → statement M
-field-end-spec =
+pub find-spec : {M : Type 1} → statement M
+find-spec =
     tie.close
     (tie.spec
     Inv-loop
