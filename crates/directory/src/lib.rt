@@ -81,8 +81,9 @@ pub fn push_front(dir: &mut [u64], e: Entry)
 {
     let n = dir[1];
     dir[1] = n + 1;
-    words::move_up(dir, 2, 6, 6 * (n as usize));
-    write(dir, 2, e);
+    let end = 2 + 6 * (n as usize);
+    words::move_up(dir, 2, 6, end - 2);
+    write(dir, 2, e); // in front
 }
 
 // Keeps the first k entries.

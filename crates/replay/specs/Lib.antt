@@ -1,3 +1,4 @@
 pub mod Front
 pub mod Ready
 pub mod Running
+pub mod LineLaws
