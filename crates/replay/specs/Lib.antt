@@ -2,3 +2,4 @@ pub mod Front
 pub mod Ready
 pub mod Running
 pub mod LineLaws
+pub mod Progress

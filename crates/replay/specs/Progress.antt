@@ -1,0 +1,109 @@
+-- How far lines have been done: what is written of them, and what is left of the input.
+use mathlib.Core.Path.{_≡_, refl, sym, ap, _∙_}
+use mathlib.Core.Bool.{true}
+use mathlib.Core.List.{List, _++_}
+use Prim.Native.Nat.{ℕ, _+_, _-_, _≤_, _<_}
+use native.Mathlib.Omega.{arith}
+use lib.ListN.{length, take, drop, length-append, length-drop}
+use lib.Seq.{take-all, drop-drop, take-at, drop-at, length-take-le}
+use Rattle.rules.specs.declared.Answer.{Answer}
+use Rattle.rules.specs.Layout.{part, put}
+use Rattle.laws.specs.LayoutLaws.{length-put}
+use Rattle.rules.specs.Soundness.{every}
+use Rattle.rules.specs.Replay.{Replay, LineDone, callOf, lineDone, lineWritten}
+use Rattle.scanning.specs.Until.{other, Until}
+use Rattle.replay.specs.Front.{state}
+use Rattle.replay.specs.Ready.{ReadyState, Runs}
+use Rattle.replay.specs.LineLaws.{Went, went-none, went-line}
+
+-- the most that one line's output may take
+abbrev pub room : List ℕ → ℕ
+room pool = 160 + length pool
+
+-- ---- one line done: what it leaves, and what is written of it at `at`
+
+abbrev pub doneLine : List ℕ → Replay → LineDone
+doneLine line s = lineDone (callOf line) s
+
+abbrev pub written : ℕ → LineDone → List ℕ
+written n d = lineWritten n (d .answer) (d .after .pool)
+
+pub record Lined (n : ℕ) (line : List ℕ) (s : Replay) (out : List ℕ) (at : ℕ) (after : Replay) (out' : List ℕ) (end : ℕ) : Type 0 where
+  pub after-is : after ≡ doneLine line s .after
+  pub ready : ReadyState after
+  pub out-is : out' ≡ put out at (written n (doneLine line s))
+  pub end-is : end ≡ at + length (written n (doneLine line s))
+
+-- ---- lines done
+
+-- from a state s₀ and the number lines₀ of lines before: `at` bytes of the input are done, `w` bytes of the output are written
+pub record Doing (s₀ : Replay) (lines₀ : ℕ) (input out₀ : List ℕ) (s : Replay) (lines at w : ℕ) (out : List ℕ) : Type 0 where
+  pub went : Went (lines₀ + 1) input s₀ (lines + 1) (drop at input) (take w out) s
+  pub inside : at ≤ length input
+  pub fits : w ≤ length out
+  pub kept : drop w out ≡ drop w out₀
+  pub ready : ReadyState s
+  pub moves : at ≡ 0 → w ≡ 0
+  pub counted : lines ≤ lines₀ + at
+
+-- and no line is left that could be done: where there is room for another, the rest of the input has no end of a line
+pub record Done (s₀ : Replay) (lines₀ : ℕ) (input out₀ : List ℕ) (s : Replay) (lines at w : ℕ) (out : List ℕ) : Type 0 where
+  pub doing : Doing s₀ lines₀ input out₀ s lines at w out
+  pub stops : w + room (s .pool) ≤ length out → every (other 10) (drop at input) ≡ true
+
+pub doing-none : {s₀ : Replay} {lines₀ : ℕ} {input out₀ : List ℕ} → ReadyState s₀ → Doing s₀ lines₀ input out₀ s₀ lines₀ 0 0 out₀
+doing-none {s₀} {lines₀} {input} {out₀} r =
+    record {
+      went = went-none (lines₀ + 1) input s₀;
+      inside = omega arith;
+      fits = omega arith;
+      kept = refl;
+      ready = r;
+      moves = λ z. z;
+      counted = omega arith;
+    }
+
+-- ---- what is written stands before what is written next
+
+take-put : (d : List ℕ) (at : ℕ) (t : List ℕ) → at + length t ≤ length d → take (at + length t) (put d at t) ≡ take at d ++ t
+unfolding put
+take-put d at t h =
+    take-at (take at d ++ t) (drop (at + length t) d) (at + length t) (length-append (take at d) t ∙ omega (arith, length-take-le at d (omega arith)))
+
+drop-put : (d : List ℕ) (at : ℕ) (t : List ℕ) → at + length t ≤ length d → drop (at + length t) (put d at t) ≡ drop (at + length t) d
+unfolding put
+drop-put d at t h =
+    drop-at (take at d ++ t) (drop (at + length t) d) (at + length t) (length-append (take at d) t ∙ omega (arith, length-take-le at d (omega arith)))
+
+-- one line more
+module _ {s₀ : Replay} {lines₀ : ℕ} {input out₀ : List ℕ} {s : Replay} {lines at w : ℕ} {out : List ℕ} (g : Doing s₀ lines₀ input out₀ s lines at w out) where
+  -- the length of the output stays
+  pub doing-line : {end : ℕ} {after : Replay} {out' : List ℕ} {w' : ℕ} → Until 10 input at end → end < length input → Lined (lines + 1) (part input at (end - at)) s out w after out' w' → w' ≤ length out → Doing s₀ lines₀ input out₀ after (lines + 1) (end + 1) w' out'
+  doing-line {end} {after} {out'} {w'} u h l f =
+      let line : List ℕ = part input at (end - at) in
+      let t : List ℕ = written (lines + 1) (doneLine line s) in
+      let fits : w + length t ≤ length out = omega (arith, l .end-is) in
+      let text : take w' out' ≡ take w out ++ t = ap (take w') (l .out-is) ∙ ap (λ (k : ℕ). take k (put out w t)) (l .end-is) ∙ take-put out w t fits in
+      let tail : drop w' out' ≡ drop w' out = ap (drop w') (l .out-is) ∙ ap (λ (k : ℕ). drop k (put out w t)) (l .end-is) ∙ drop-put out w t fits ∙ ap (λ (k : ℕ). drop k out) (sym (l .end-is)) in
+      let past : w + (w' - w) ≡ w' = omega (arith, l .end-is) in
+      record {
+        went = rw (text, l .after-is) (went-line (g .went) u h);
+        inside = omega arith;
+        fits = omega (arith, ap length (l .out-is) ∙ length-put out w t fits);
+        kept = tail ∙ ap (λ (k : ℕ). drop k out) (sym past) ∙ sym (drop-drop (w' - w) w out) ∙ ap (drop (w' - w)) (g .kept) ∙ drop-drop (w' - w) w out₀ ∙ ap (λ (k : ℕ). drop k out₀) past;
+        ready = l .ready;
+        moves = λ z. absurd (omega arith);
+        counted = omega (arith, g .counted, u .after);
+      }
+
+  -- a rest with no end of a line
+  pub doing-rest : {end : ℕ} → Until 10 input at end → length input ≤ end → Done s₀ lines₀ input out₀ s lines at w out
+  doing-rest {end} u h =
+      record {
+        doing = g;
+        stops = λ r. ap (every (other 10)) (sym (take-all (end - at) (drop at input) (omega (arith, length-drop at input)))) ∙ u .nowhere;
+      }
+
+  -- no room for another line
+  pub doing-full : length out < w + room (s .pool) → Done s₀ lines₀ input out₀ s lines at w out
+  doing-full f = record { doing = g; stops = λ r. absurd (omega arith) }
