@@ -1,10 +1,10 @@
--- `capi::tell` meets its contract.
+-- `telling::tell` meets its contract.
 use Rattle.rules.specs.Answer.{fieldsOf}
-use Rattle.capi.specs.Told.{toldOf, boolean-told, number-told, sum-told}
+use Rattle.telling.specs.Told.{toldOf, boolean-told, number-told, sum-told}
 use mathlib.Core.Path.{sym, ap, _∙_}
 use borrow.Author.Needs.{needs}
-use Rattle.capi.proofs.tell.Statement.{statement}
-use Rattle.capi.proofs.tell.Tie as tie
+use Rattle.telling.proofs.tell.Statement.{statement}
+use Rattle.telling.proofs.tell.Tie as tie
 
 enum-told : tie.Need-enum-told
 enum-told c = search needs

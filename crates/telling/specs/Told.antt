@@ -1,18 +1,16 @@
--- What an outcome tells, as plain numbers: the paper's fields, a signed number by its bits; and the words of an answer.
+-- What an outcome tells, as plain numbers: the paper's fields, a signed number by its bits.
 use mathlib.Core.Path.{_≡_, sym, ap, _∙_}
 use mathlib.Core.Bool.{Bool, cond}
-use mathlib.Core.List.{List, [], _∷_}
 use Prim.Native.Nat.{ℕ, _<_, _^_}
 use lib.IntN.{ℤ}
 use lib.Signed.{mag}
 use mir.Syntax.{w64}
 use mir.Val.{ofZ}
-use Rattle.rules.specs.declared.Answer.{Answer}
 use Rattle.rules.specs.declared.Outcome.{Outcome}
 use Rattle.rules.specs.declared.Outcome.the-variants.{Number, Boolean, Sum}
-use Rattle.rules.specs.Answer.{Fields, fieldsOf, answerWords}
+use Rattle.rules.specs.Answer.{Fields, fieldsOf}
 use Rattle.values.specs.Bits.{held, bits-told}
-use Rattle.capi.specs.declared.Told.{Told}
+use Rattle.telling.specs.declared.Told.{Told}
 
 unfoldable pub toldOf : Outcome → Told
 toldOf o =
@@ -44,9 +42,3 @@ module _ {t : Told} {o : Outcome} {bits : ℕ} {z : ℤ} (h : mag z < 2 ^ 63) (b
   unfolding toldOf fieldsOf
   sum-told e q =
       e ∙ ap (λ (x : ℕ). valueTold 3 0 x 0 0) (bits-told {x = z} (record { sfits = h }) b) ∙ sym (ap toldOf q)
-
--- ---- the ten words
-
-pub words-told : (a : Answer) (t : Told) (forced stale : ℕ) → t ≡ toldOf (a .outcome) → forced ≡ cond (a .forced) 1 0 → stale ≡ cond (a .stale) 1 0 → _≡_ {A = List ℕ} (t .answer ∷ a .rounds ∷ a .removed ∷ forced ∷ stale ∷ t .kind ∷ t .flags ∷ t .bits ∷ t .offset ∷ t .size ∷ []) (answerWords a)
-unfolding toldOf answerWords
-words-told a t forced stale e f s = rw (e, f, s)
