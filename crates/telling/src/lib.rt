@@ -1,7 +1,7 @@
 // What an outcome tells, as plain numbers: the paper's fields, a signed number by its bits.
 ghost use mathlib.Core.Path.{_≡_};
 ghost use mathlib.Core.Bool.{cond};
-ghost use Rattle.telling.specs.Told.{onlyTold, valueTold, toldOf};
+ghost use Rattle.telling.specs.Told.{onlyTold, valueTold, toldOf, ReadBack};
 use rules::Outcome;
 use values::to_bits;
 
@@ -53,9 +53,10 @@ pub fn bit(on: bool) -> u64
     0
 }
 
-// What an outcome tells: a refusal its number alone.
+// What an outcome tells: a refusal its number alone. Where a kind is told, its number can be read back from the bits.
 pub fn tell(o: Outcome) -> Told
     ensures { λ r. ⌜ r ≡ toldOf o ⌝ }
+    ensures { λ r. ⌜ ReadBack o r ⌝ }
 {
     match o {
         Outcome::Done => only(0),
