@@ -1,3 +1,3 @@
-pub mod Told
+pub mod Words
 pub mod Places
 pub mod Exports

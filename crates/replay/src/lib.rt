@@ -1,12 +1,14 @@
 // Replay: what lines do to a lent memory, one after the other.
 ghost use mathlib.Core.Path.{_≡_};
-ghost use Prim.Native.Nat.{_≤_};
+ghost use Prim.Native.Nat.{_+_, _≤_, _<_, _^_};
+ghost use lib.ListN.{length};
 ghost use Rattle.rules.specs.Calls.{getCall, deleteCall, storeCall, freshCall};
 ghost use Rattle.rules.specs.Replay.{called, freshened, lineDone};
 ghost use Rattle.rules.specs.declared.Operation.the-variants.{Set};
 ghost use Rattle.lines.specs.Saying.{said, Inside};
 ghost use Rattle.replay.specs.Front.{Ready, doneAs, state};
 ghost use Rattle.replay.specs.Ready.{Runs};
+ghost use Rattle.replay.specs.Progress.{Lined, Done, room};
 use lines::Call;
 use rules::Answer;
 use rules::Check;
@@ -170,5 +172,80 @@ fn do_call(dir: &mut [u64], pool: &mut [u8], cells: usize, line: &[u8], call: Ca
             cells,
             answer: Answer::plain(Outcome::LineUnreadable, 0),
         },
+    }
+}
+
+// What one line leaves: how many cells are in use, and where its output ends.
+struct Step {
+    cells: usize,
+    end: usize,
+}
+
+// Does one line, and writes its output at `at`, as that of the call with the number n.
+fn do_line(
+    dir: &mut [u64],
+    pool: &mut [u8],
+    cells: usize,
+    n: u64,
+    line: &[u8],
+    out: &mut [u8],
+    at: usize,
+) -> Step
+    requires { ⌜ Ready cells (now dir) (now pool) ⌝ }
+    requires { ⌜ at + room (now pool) ≤ length (now out) ⌝ }
+    ensures { λ r. ⌜ Lined n (now (line .entry)) (state cells (now (dir .entry)) (now (pool .entry))) (now (out .entry)) at (state (r .cells) (now (dir .exit)) (now (pool .exit))) (now (out .exit)) (r .end) ⌝ }
+{
+    let call = lines::parse(line);
+    let ran = do_call(dir, pool, cells, line, call);
+    let end = printing::write_line(out, at, n, ran.answer, pool);
+    Step {
+        cells: ran.cells,
+        end,
+    }
+}
+
+// How far a run came: the cells in use, the number of lines done in all, the bytes of the input that are done, and the bytes of the output.
+pub struct Progress {
+    pub cells: usize,
+    pub lines: u64,
+    pub consumed: usize,
+    pub written: usize,
+}
+
+// Does the lines of the input that have an end, one after the other, as long as the output has room, and says how far it came.
+pub fn run(
+    dir: &mut [u64],
+    pool: &mut [u8],
+    cells: usize,
+    lines: u64,
+    input: &[u8],
+    out: &mut [u8],
+) -> Progress
+    requires { ⌜ Ready cells (now dir) (now pool) ⌝ }
+    requires { ⌜ lines + length (now input) < 2 ^ 64 ⌝ }
+    requires { ⌜ length (now out) + room (now pool) < 2 ^ 64 ⌝ }
+    ensures { λ r. ⌜ Done (state cells (now (dir .entry)) (now (pool .entry))) lines (now (input .entry)) (now (out .entry)) (state (r .cells) (now (dir .exit)) (now (pool .exit))) (r .lines) (r .consumed) (r .written) (now (out .exit)) ⌝ }
+{
+    let most = 160 + pool.len();
+    let mut used = cells;
+    let mut n = lines;
+    let mut at = 0;
+    let mut w = 0;
+    while w + most <= out.len() {
+        let end = scanning::find(input, at, 10);
+        if end == input.len() {
+            break;
+        }
+        n += 1;
+        let step = do_line(dir, pool, used, n, &input[at..end], out, w);
+        used = step.cells;
+        w = step.end;
+        at = end + 1;
+    }
+    Progress {
+        cells: used,
+        lines: n,
+        consumed: at,
+        written: w,
     }
 }

@@ -1,10 +1,10 @@
--- `capi::tell` meets its contract.
+-- `telling::tell` meets its contract.
 use Rattle.rules.specs.Answer.{fieldsOf}
-use Rattle.capi.specs.Told.{toldOf, boolean-told, number-told, sum-told}
-use mathlib.Core.Path.{sym, ap, _∙_}
+use Rattle.telling.specs.Told.{toldOf, bare-told, text-told, boolean-told, number-told, sum-told}
+use mathlib.Core.Path.{refl}
 use borrow.Author.Needs.{needs}
-use Rattle.capi.proofs.tell.Statement.{statement}
-use Rattle.capi.proofs.tell.Tie as tie
+use Rattle.telling.proofs.tell.Statement.{statement}
+use Rattle.telling.proofs.tell.Tie as tie
 
 enum-told : tie.Need-enum-told
 enum-told c = search needs
@@ -131,7 +131,7 @@ only-requires-14 c κs = search needs
 
 returns : tie.Need-returns
 unfolding toldOf fieldsOf
-returns c = c .only .ensures ∙ sym (ap toldOf (c .before .enum-told .given .1))
+returns c = bare-told (c .only .ensures) refl (c .before .enum-told .given .1)
 
 returns-2 : tie.Need-returns-2
 returns-2 c = number-told (c .before .before .known-told .given .1 .0 .1) (c .before .to-bits .ensures) (c .value .ensures) (c .before .before .before .o .given .1)
@@ -140,67 +140,66 @@ returns-3 : tie.Need-returns-3
 returns-3 c = boolean-told (c .before .bit .ensures) (c .value2 .ensures) (c .before .before .before .o2 .given .1)
 
 returns-4 : tie.Need-returns-4
-unfolding toldOf fieldsOf
-returns-4 c = c .value3 .ensures ∙ sym (ap toldOf (c .before .before .o3 .given .1))
+returns-4 c = text-told (c .value3 .ensures) (c .before .before .o3 .given .1)
 
 returns-5 : tie.Need-returns-5
 unfolding toldOf fieldsOf
-returns-5 c = c .value4 .ensures ∙ sym (ap toldOf (c .before .before .o4 .given .1))
+returns-5 c = bare-told (c .value4 .ensures) refl (c .before .before .o4 .given .1)
 
 returns-6 : tie.Need-returns-6
 returns-6 c = sum-told (c .before .before .known-told5 .given .0 .1) (c .before .to-bits2 .ensures) (c .value5 .ensures) (c .before .before .before .o5 .given .1)
 
 returns-7 : tie.Need-returns-7
 unfolding toldOf fieldsOf
-returns-7 c = c .only2 .ensures ∙ sym (ap toldOf (c .before .enum-told2 .given .1))
+returns-7 c = bare-told (c .only2 .ensures) refl (c .before .enum-told2 .given .1)
 
 returns-8 : tie.Need-returns-8
 unfolding toldOf fieldsOf
-returns-8 c = c .only3 .ensures ∙ sym (ap toldOf (c .before .enum-told3 .given .1))
+returns-8 c = bare-told (c .only3 .ensures) refl (c .before .enum-told3 .given .1)
 
 returns-9 : tie.Need-returns-9
 unfolding toldOf fieldsOf
-returns-9 c = c .only4 .ensures ∙ sym (ap toldOf (c .before .enum-told4 .given .1))
+returns-9 c = bare-told (c .only4 .ensures) refl (c .before .enum-told4 .given .1)
 
 returns-10 : tie.Need-returns-10
 unfolding toldOf fieldsOf
-returns-10 c = c .only5 .ensures ∙ sym (ap toldOf (c .before .enum-told5 .given .1))
+returns-10 c = bare-told (c .only5 .ensures) refl (c .before .enum-told5 .given .1)
 
 returns-11 : tie.Need-returns-11
 unfolding toldOf fieldsOf
-returns-11 c = c .only6 .ensures ∙ sym (ap toldOf (c .before .enum-told6 .given .1))
+returns-11 c = bare-told (c .only6 .ensures) refl (c .before .enum-told6 .given .1)
 
 returns-12 : tie.Need-returns-12
 unfolding toldOf fieldsOf
-returns-12 c = c .only7 .ensures ∙ sym (ap toldOf (c .before .enum-told7 .given .1))
+returns-12 c = bare-told (c .only7 .ensures) refl (c .before .enum-told7 .given .1)
 
 returns-13 : tie.Need-returns-13
 unfolding toldOf fieldsOf
-returns-13 c = c .only8 .ensures ∙ sym (ap toldOf (c .before .enum-told8 .given .1))
+returns-13 c = bare-told (c .only8 .ensures) refl (c .before .enum-told8 .given .1)
 
 returns-14 : tie.Need-returns-14
 unfolding toldOf fieldsOf
-returns-14 c = c .only9 .ensures ∙ sym (ap toldOf (c .before .enum-told9 .given .1))
+returns-14 c = bare-told (c .only9 .ensures) refl (c .before .enum-told9 .given .1)
 
 returns-15 : tie.Need-returns-15
 unfolding toldOf fieldsOf
-returns-15 c = c .only10 .ensures ∙ sym (ap toldOf (c .before .enum-told10 .given .1))
+returns-15 c = bare-told (c .only10 .ensures) refl (c .before .enum-told10 .given .1)
 
 returns-16 : tie.Need-returns-16
 unfolding toldOf fieldsOf
-returns-16 c = c .only11 .ensures ∙ sym (ap toldOf (c .before .enum-told11 .given .1))
+returns-16 c = bare-told (c .only11 .ensures) refl (c .before .enum-told11 .given .1)
 
 returns-17 : tie.Need-returns-17
 unfolding toldOf fieldsOf
-returns-17 c = c .only12 .ensures ∙ sym (ap toldOf (c .before .enum-told12 .given .1))
+returns-17 c = bare-told (c .only12 .ensures) refl (c .before .enum-told12 .given .1)
 
 returns-18 : tie.Need-returns-18
 unfolding toldOf fieldsOf
-returns-18 c = c .only13 .ensures ∙ sym (ap toldOf (c .before .enum-told13 .given .1))
+returns-18 c = bare-told (c .only13 .ensures) refl (c .before .enum-told13 .given .1)
 
 returns-19 : tie.Need-returns-19
 unfolding toldOf fieldsOf
-returns-19 c = c .only14 .ensures ∙ sym (ap toldOf (c .before .enum-told14 .given .1))
+returns-19 c = bare-told (c .only14 .ensures) refl (c .before .enum-told14 .given .1)
 
 pub tell-spec : {M : Type 1} → statement M
 tell-spec =

@@ -1,0 +1,4 @@
+pub mod Printable
+pub mod Wrote
+pub mod Columns
+pub mod Room
