@@ -10,7 +10,8 @@ use Rattle.rules.specs.declared.Answer.{Answer}
 use Rattle.rules.specs.Layout.{part, put}
 use Rattle.laws.specs.LayoutLaws.{length-put}
 use Rattle.rules.specs.Soundness.{every}
-use Rattle.rules.specs.Replay.{Replay, LineDone, callOf, lineDone, lineWritten}
+use Rattle.rules.specs.Replay.{Replay, LineCall, LineDone, callOf, lineDone, lineWritten}
+use Rattle.printing.specs.Room.{line-most}
 use Rattle.scanning.specs.Until.{other, Until}
 use Rattle.replay.specs.Front.{state}
 use Rattle.replay.specs.Ready.{ReadyState, Runs}
@@ -33,6 +34,19 @@ pub record Lined (n : ℕ) (line : List ℕ) (s : Replay) (out : List ℕ) (at :
   pub ready : ReadyState after
   pub out-is : out' ≡ put out at (written n (doneLine line s))
   pub end-is : end ≡ at + length (written n (doneLine line s))
+  pub end-fits : end ≤ length out
+
+pub lined : {n : ℕ} {line : List ℕ} {s : Replay} {c : LineCall} {a : Answer} {out : List ℕ} {at : ℕ} {after : Replay} {out' : List ℕ} {end : ℕ} → c ≡ callOf line → Runs c s a after → out' ≡ put out at (lineWritten n a (after .pool)) → end ≡ at + length (lineWritten n a (after .pool)) → at + room (after .pool) ≤ length out → Lined n line s out at after out' end
+lined {n} {line} {s} {c} {a} {out} {at} {after} {out'} {end} e r o w h =
+    let done : record { answer = a; after = after } ≡ doneLine line s = r .done ∙ ap (λ (x : LineCall). lineDone x s) e in
+    let text : lineWritten n a (after .pool) ≡ written n (doneLine line s) = ap (written n) done in
+    record {
+      after-is = ap (λ (d : LineDone). d .after) done;
+      ready = r .ready;
+      out-is = o ∙ ap (put out at) text;
+      end-is = w ∙ ap (λ (t : List ℕ). at + length t) text;
+      end-fits = omega (arith, w, line-most n a (after .pool));
+    }
 
 -- ---- lines done
 
@@ -77,12 +91,11 @@ drop-put d at t h =
 
 -- one line more
 module _ {s₀ : Replay} {lines₀ : ℕ} {input out₀ : List ℕ} {s : Replay} {lines at w : ℕ} {out : List ℕ} (g : Doing s₀ lines₀ input out₀ s lines at w out) where
-  -- the length of the output stays
-  pub doing-line : {end : ℕ} {after : Replay} {out' : List ℕ} {w' : ℕ} → Until 10 input at end → end < length input → Lined (lines + 1) (part input at (end - at)) s out w after out' w' → w' ≤ length out → Doing s₀ lines₀ input out₀ after (lines + 1) (end + 1) w' out'
-  doing-line {end} {after} {out'} {w'} u h l f =
+  pub doing-line : {end : ℕ} {after : Replay} {out' : List ℕ} {w' : ℕ} → Until 10 input at end → end < length input → Lined (lines + 1) (part input at (end - at)) s out w after out' w' → Doing s₀ lines₀ input out₀ after (lines + 1) (end + 1) w' out'
+  doing-line {end} {after} {out'} {w'} u h l =
       let line : List ℕ = part input at (end - at) in
       let t : List ℕ = written (lines + 1) (doneLine line s) in
-      let fits : w + length t ≤ length out = omega (arith, l .end-is) in
+      let fits : w + length t ≤ length out = omega (arith, l .end-is, l .end-fits) in
       let text : take w' out' ≡ take w out ++ t = ap (take w') (l .out-is) ∙ ap (λ (k : ℕ). take k (put out w t)) (l .end-is) ∙ take-put out w t fits in
       let tail : drop w' out' ≡ drop w' out = ap (drop w') (l .out-is) ∙ ap (λ (k : ℕ). drop k (put out w t)) (l .end-is) ∙ drop-put out w t fits ∙ ap (λ (k : ℕ). drop k out) (sym (l .end-is)) in
       let past : w + (w' - w) ≡ w' = omega (arith, l .end-is) in
