@@ -12,25 +12,13 @@ use Rattle.rules.specs.Layout.{part}
 use Rattle.rules.specs.Answer.{Fields, fieldsOf}
 use Rattle.rules.specs.Replay.{decimal, signed, valueShown, tabbed, lineWritten}
 use Rattle.decimals.specs.DigitLaws.{decimal-most}
-use Rattle.printing.specs.Columns.{ended, threeEnded}
 
--- ---- numbers
-
-pub ended-most : (n end : ℕ) → length (ended n end) ≤ 21
-unfolding ended
-ended-most n end = omega (arith, length-append (decimal n) (end ∷ []), decimal-most n)
-
-pub three-most : (a b c end : ℕ) → length (threeEnded a b c end) ≤ 63
-unfolding threeEnded
-three-most a b c end =
-    omega (arith, length-append (ended a 9 ++ ended b 9) (ended c end), length-append (ended a 9) (ended b 9), ended-most a 9, ended-most b 9, ended-most c end)
+-- ---- the value
 
 signed-any : (z : ℤ) → length (signed z) ≤ 21
 unfolding signed
 signed-any (pos n) = omega (arith, decimal-most n)
 signed-any (negsuc n) = omega (arith, decimal-most (suc n))
-
--- ---- the value
 
 part-most : (pool : List ℕ) (at size : ℕ) → length (part pool at size) ≤ length pool
 part-most pool at size = simp (length-take, length-drop) (omega arith)

@@ -18,8 +18,8 @@ pub record Wrote (d₀ : List ℕ) (at : ℕ) (s d : List ℕ) (stop : ℕ) : Ty
 abbrev pub Says : List ℕ → ℕ → List ℕ → List ℕ → ℕ → Type 0
 Says d₀ at s d stop = (d ≡ put d₀ at s) × (stop ≡ at + length s)
 
-pub wrote-first : {d₀ s d : List ℕ} {at stop : ℕ} → Says d₀ at s d stop → at + length s ≤ length d₀ → Wrote d₀ at s d stop
-wrote-first w h = record { is = w .0; stops = w .1; room = h }
+pub wrote-first : {d₀ s d : List ℕ} {at stop : ℕ} → Says d₀ at s d stop → stop ≤ length d₀ → Wrote d₀ at s d stop
+wrote-first w h = record { is = w .0; stops = w .1; room = omega (arith, w .1) }
 
 -- the same text said otherwise
 pub wrote-same : (d₀ : List ℕ) (at : ℕ) {s t d : List ℕ} {stop : ℕ} → Says d₀ at s d stop → s ≡ t → Says d₀ at t d stop
@@ -37,7 +37,7 @@ module _ {d₀ a d : List ℕ} {at stop : ℕ} (w : Wrote d₀ at a d stop) wher
   size : length d ≡ length d₀
   size = ap length (w .is) ∙ length-put d₀ at a (w .room)
 
-  pub wrote-next : (b : List ℕ) {d₁ : List ℕ} {stop₁ : ℕ} → Says d stop b d₁ stop₁ → stop + length b ≤ length d₀ → Wrote d₀ at (a ++ b) d₁ stop₁
+  pub wrote-next : (b : List ℕ) {d₁ : List ℕ} {stop₁ : ℕ} → Says d stop b d₁ stop₁ → stop₁ ≤ length d₀ → Wrote d₀ at (a ++ b) d₁ stop₁
   wrote-next b n h =
       let l : length (a ++ b) ≡ length a + length b = length-append a b in
       record {
@@ -45,9 +45,9 @@ module _ {d₀ a d : List ℕ} {at stop : ℕ} (w : Wrote d₀ at a d stop) wher
             n .0
             ∙ ap (λ (x : List ℕ). put x stop b) (w .is)
             ∙ ap (λ (k : ℕ). put (put d₀ at a) k b) (w .stops)
-            ∙ put-then d₀ at a b (omega (arith, w .stops));
+            ∙ put-then d₀ at a b (omega (arith, n .1, w .stops));
         stops = omega (arith, n .1, w .stops, l);
-        room = omega (arith, w .stops, l);
+        room = omega (arith, n .1, w .stops, l);
       }
 
   pub wrote-byte : (v : ℕ) → stop < length d₀ → Wrote d₀ at (a ++ (v ∷ [])) (set d stop v) (stop + 1)

@@ -13,16 +13,18 @@ use telling::Told;
 fn field(out: &mut [u8], at: usize, n: u64, end: u8) -> usize
     requires { ⌜ at + 21 ≤ length (now out) ⌝ }
     ensures { λ r. ⌜ (now (out .exit) ≡ put (now (out .entry)) at (ended n end)) × (r ≡ at + length (ended n end)) ⌝ }
+    ensures { λ r. ⌜ r ≤ at + 21 ⌝ }
 {
     let to = decimals::write_number(out, at, n);
     out[to] = end;
     to + 1
 }
 
-// Writes three columns of numbers, the last ended by `end`: a value stands between three and three.
+// Writes three columns of numbers, the last ended by `end`. A line has three before its value and three behind it.
 fn three(out: &mut [u8], at: usize, a: u64, b: u64, c: u64, end: u8) -> usize
     requires { ⌜ at + 63 ≤ length (now out) ⌝ }
     ensures { λ r. ⌜ (now (out .exit) ≡ put (now (out .entry)) at (threeEnded a b c end)) × (r ≡ at + length (threeEnded a b c end)) ⌝ }
+    ensures { λ r. ⌜ r ≤ at + 63 ⌝ }
 {
     let second = field(out, at, a, 9);
     let third = field(out, second, b, 9);
@@ -34,6 +36,7 @@ fn shown(out: &mut [u8], at: usize, t: Told, pool: &[u8]) -> usize
     requires { ⌜ ToldInside t (now pool) ⌝ }
     requires { ⌜ at + (20 + length (now pool)) ≤ length (now out) ⌝ }
     ensures { λ r. ⌜ (now (out .exit) ≡ put (now (out .entry)) at (valueShown (toldFields t) (now (pool .entry)))) × (r ≡ at + length (valueShown (toldFields t) (now (pool .entry)))) ⌝ }
+    ensures { λ r. ⌜ r ≤ at + (21 + length (now (pool .entry))) ⌝ }
 {
     if t.kind == 0 {
         out[at] = 45;
@@ -41,9 +44,10 @@ fn shown(out: &mut [u8], at: usize, t: Told, pool: &[u8]) -> usize
     }
     if t.kind == 4 {
         let start = t.offset as usize;
-        let end = start + t.size as usize;
+        let size = t.size as usize;
+        let end = start + size;
         words::copy_in(out, at, &pool[start..end]);
-        return at + t.size as usize;
+        return at + size;
     }
     decimals::write_signed(out, at, values::from_bits(t.bits))
 }
@@ -59,14 +63,9 @@ pub fn write_line(out: &mut [u8], at: usize, n: u64, answer: Answer, pool: &[u8]
     let value = three(out, at, n, t.answer, t.kind, 9);
     let to = shown(out, value, t, pool);
     out[to] = 9;
-    three(
-        out,
-        to + 1,
-        t.flags,
-        answer.rounds as u64,
-        answer.removed as u64,
-        10,
-    )
+    let rounds = answer.rounds as u64;
+    let removed = answer.removed as u64;
+    three(out, to + 1, t.flags, rounds, removed, 10)
 }
 
 // Writes the header at the beginning, and answers where it ends.

@@ -22,7 +22,10 @@ same-length c = search needs
 
 returns : tie.Need-returns
 unfolding ended
-returns c = wrote-all (wrote-byte (wrote-first (c .before .before .write-number .ensures) (omega (arith, decimal-most (c .before .before .before .before .before .args .n)))) (c .before .before .before .before .before .args .end) (omega (arith, decimal-most (c .before .before .before .before .before .args .n)))) refl
+returns c =
+    let most = decimal-most (c .before .before .before .before .before .args .n) in
+    let number = wrote-first (c .before .before .write-number .ensures) (omega (arith, most)) in
+    (wrote-all (wrote-byte number (c .before .before .before .before .before .args .end) (omega (arith, most))) refl, omega (arith, most))
 
 pub field-spec : {M : Type 1} → statement M
 field-spec =

@@ -1,4 +1,5 @@
 -- `printing::shown` meets its contract.
+use Rattle.printing.specs.Room.{shown-most}
 use Rattle.rules.specs.Replay.{signed}
 use Rattle.printing.specs.Wrote.{wrote-same, byte-says}
 use Rattle.values.specs.Bits.{held-is}
@@ -19,7 +20,7 @@ same-length : tie.Need-same-length
 same-length c = search needs
 
 returns : tie.Need-returns
-returns c = wrote-same _ _ (byte-says (c .before .before .before .before .args .out .now) (c .before .before .before .before .args .at) 45 (omega arith), refl) (shown-none (toldFields (c .before .before .before .before .args .t)) (c .before .before .before .before .args .pool .now) (c .if1 .taken))
+returns c = (wrote-same _ _ (byte-says (c .before .before .before .before .args .out .now) (c .before .before .before .before .args .at) 45 (omega arith), refl) (shown-none (toldFields (c .before .before .before .before .args .t)) (c .before .before .before .before .args .pool .now) (c .if1 .taken)), omega arith)
 
 add-end : tie.Need-add-end
 add-end c = omega (arith, c .before .before .before .before .before .before .pre .0 (c .if2 .taken))
@@ -43,7 +44,7 @@ same-length-2 : tie.Need-same-length-2
 same-length-2 c = search needs
 
 returns-2 : tie.Need-returns-2
-returns-2 c = shown-text (toldFields (c .before .before .before .before .before .before .before .before .before .before .before .args .t)) (c .before .before .before .before .before .before .before .before .before .before .before .args .pool .now) (c .before .before .before .before .before .before .before .before .before .before .before .args .out .now) (c .before .before .before .before .before .before .before .before .before .before .before .args .at) _ (c .before .before .before .before .before .if2 .taken) (c .before .before .before .before .before .before .before .before .before .before .before .pre .0 (c .before .before .before .before .before .if2 .taken)) (c .before .before .copy-in .ensures)
+returns-2 c = (shown-text (toldFields (c .before .before .before .before .before .before .before .before .before .before .before .args .t)) (c .before .before .before .before .before .before .before .before .before .before .before .args .pool .now) (c .before .before .before .before .before .before .before .before .before .before .before .args .out .now) (c .before .before .before .before .before .before .before .before .before .before .before .args .at) _ (c .before .before .before .before .before .if2 .taken) (c .before .before .before .before .before .before .before .before .before .before .before .pre .0 (c .before .before .before .before .before .if2 .taken)) (c .before .before .copy-in .ensures), omega (arith, c .before .before .before .before .before .before .before .before .before .before .before .pre .0 (c .before .before .before .before .before .if2 .taken)))
 
 from-bits-requires : tie.Need-from-bits-requires
 from-bits-requires c κs = search needs
@@ -55,7 +56,9 @@ same-length-3 : tie.Need-same-length-3
 same-length-3 c = search needs
 
 returns-3 : tie.Need-returns-3
-returns-3 c = wrote-same _ _ (c .before .before .write-signed .ensures) (ap signed (held-is (c .before .before .before .from-bits .ok) (c .before .before .before .from-bits .ensures)) ∙ shown-number (toldFields (c .before .before .before .before .before .before .before .before .before .before .before .args .t)) (c .before .before .before .before .before .before .before .before .before .before .before .args .pool .now) (c .before .before .before .before .before .before .before .if1 .left) (c .before .before .before .before .before .if2 .left))
+returns-3 c =
+    let says = wrote-same _ _ (c .before .before .write-signed .ensures) (ap signed (held-is (c .before .before .before .from-bits .ok) (c .before .before .before .from-bits .ensures)) ∙ shown-number (toldFields (c .before .before .before .before .before .before .before .before .before .before .before .args .t)) (c .before .before .before .before .before .before .before .before .before .before .before .args .pool .now) (c .before .before .before .before .before .before .before .if1 .left) (c .before .before .before .before .before .if2 .left)) in
+    (says, omega (arith, says .1, shown-most (toldFields (c .before .before .before .before .before .before .before .before .before .before .before .args .t)) (c .before .before .before .before .before .before .before .before .before .before .before .args .pool .now)))
 
 pub shown-spec : {M : Type 1} → statement M
 shown-spec =
