@@ -1,4 +1,5 @@
 -- `replay::do_line` meets its contract.
+use Rattle.printing.specs.Printable.{TextInside}
 use Rattle.replay.specs.Progress.{lined}
 use mathlib.Core.Path.{_≡_, refl, sym, ap, _∙_}
 use mathlib.Core.List.{List, [], _∷_, _++_}
@@ -21,7 +22,8 @@ do-call-requires : tie.Need-do-call-requires
 do-call-requires c κs = (c .before .before .before .before .before .before .before .pre .0, c .before .before .parse .ensures .1)
 
 write-line-requires : tie.Need-write-line-requires
-write-line-requires c κs = (?, omega (arith, c .before .before .before .before .before .before .do-call .kept, c .before .before .before .before .before .before .before .before .before .before .before .before .before .before .pre .1))
+unfolding TextInside
+write-line-requires c κs = (c .before .before .before .before .before .before .do-call .ensures .text, omega (arith, c .before .before .before .before .before .before .do-call .kept, c .before .before .before .before .before .before .before .before .before .before .before .before .before .before .pre .1))
 
 same-length : tie.Need-same-length
 same-length c = search needs
