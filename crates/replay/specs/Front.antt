@@ -13,7 +13,7 @@ use mir.Val.{toZ, ofZ, SFits}
 use mir.Facts.{toZ-ofZ}
 use Rattle.rules.specs.declared.Operation.the-variants.{Set}
 use borrow.Author.Tests.{ne-eqb, eq-eqb, le-leb, lt-leb}
-use lib.Dec.{eqb, leb}
+use lib.Dec.{leb}
 use Rattle.rules.specs.declared.Answer.{Answer}
 use Rattle.rules.specs.declared.Outcome.{Outcome}
 use Rattle.rules.specs.declared.Outcome.the-variants.{NotSound}
@@ -25,12 +25,11 @@ use Rattle.laws.specs.Lists.{nil, none-yet}
 use Rattle.rules.specs.Answer.{plain}
 use Rattle.rules.specs.Checks.{refuse, checkLengths, storeChecks}
 use Rattle.rules.specs.Calls.{Result, Work, Does, call, gave, freshWork, freshCall, itemOf, storeWork, storeCall}
-use Rattle.rules.specs.Replay.{Replay, LineDone, onFront, called, freshened, frontDir, frontPool, answered}
+use Rattle.rules.specs.Replay.{Replay, LineDone, onFront, called, freshened, frontDir, frontPool}
 use Rattle.laws.specs.SoundMemory.{SoundMemory}
-use Rattle.laws.specs.SoundnessLaws.{Sound, sound-is}
 use Rattle.laws.specs.CallsLaws.{gave-refused, gave-passed}
 use Rattle.laws.specs.Carry.{Carries, carries-encode, sound-carries, carries-sound}
-use Rattle.laws.specs.Steps.{Call, Buffers, step, carries-step}
+use Rattle.laws.specs.Steps.{Call, step, carries-step}
 
 abbrev pub state : ℕ → List ℕ → List ℕ → Replay
 state cells dir pool = record { cells = cells; dir = dir; pool = pool }

@@ -4,3 +4,4 @@ pub mod Ready
 pub mod Running
 pub mod LineLaws
 pub mod Progress
+pub mod Whole

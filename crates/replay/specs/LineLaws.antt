@@ -2,10 +2,10 @@
 use mathlib.Core.Path.{_≡_, refl, sym, ap, _∙_}
 use mathlib.Core.Bool.{Bool, true, cond}
 use mathlib.Core.List.{List, [], _∷_, _++_, append-assoc, append-nil}
-use Prim.Native.Nat.{ℕ, suc, _+_, _-_, _≤_, _<_}
+use Prim.Native.Nat.{ℕ, suc, _+_, _-_, _<_}
 use native.Mathlib.Omega.{arith}
 use lib.Dec.{eqb}
-use lib.ListN.{length, take, drop, getD, take-append-drop}
+use lib.ListN.{length, drop, take-append-drop}
 use lib.Seq.{drop-cons, drop-drop}
 use borrow.Author.Tests.{not-true}
 use Rattle.rules.specs.Layout.{part}
@@ -16,7 +16,7 @@ use Rattle.scanning.specs.Until.{other, Until}
 
 -- ---- a line, and those behind it
 
-lines-plain : (begun a rest : List ℕ) → every (other 10) a ≡ true → linesFrom begun (a ++ rest) ≡ linesFrom (begun ++ a) rest
+pub lines-plain : (begun a rest : List ℕ) → every (other 10) a ≡ true → linesFrom begun (a ++ rest) ≡ linesFrom (begun ++ a) rest
 unfolding every linesFrom
 lines-plain begun [] rest e = ap (λ (x : List ℕ). linesFrom x rest) (sym (append-nil begun))
 lines-plain begun (b ∷ a) rest e =

@@ -13,7 +13,6 @@ use Rattle.rules.specs.Soundness.{every}
 use Rattle.rules.specs.Replay.{Replay, LineCall, LineDone, callOf, lineDone, lineWritten}
 use Rattle.printing.specs.Room.{line-most}
 use Rattle.scanning.specs.Until.{other, Until}
-use Rattle.replay.specs.Front.{state}
 use Rattle.replay.specs.Ready.{ReadyState, Runs}
 use Rattle.replay.specs.LineLaws.{Went, went-none, went-line}
 
@@ -79,7 +78,7 @@ doing-none {s₀} {lines₀} {input} {out₀} r =
 
 -- ---- what is written stands before what is written next
 
-take-put : (d : List ℕ) (at : ℕ) (t : List ℕ) → at + length t ≤ length d → take (at + length t) (put d at t) ≡ take at d ++ t
+pub take-put : (d : List ℕ) (at : ℕ) (t : List ℕ) → at + length t ≤ length d → take (at + length t) (put d at t) ≡ take at d ++ t
 unfolding put
 take-put d at t h =
     take-at (take at d ++ t) (drop (at + length t) d) (at + length t) (length-append (take at d) t ∙ omega (arith, length-take-le at d (omega arith)))

@@ -1,7 +1,7 @@
 -- The call that a line makes, done: from what the code learns case by case.
-use mathlib.Core.Path.{_≡_, refl, sym, ap, _∙_, subst}
+use mathlib.Core.Path.{_≡_, ap, _∙_, subst}
 use mathlib.Core.List.{List}
-use Prim.Native.Nat.{ℕ, _+_, _-_, _*_, _^_, _≤_, _<_}
+use Prim.Native.Nat.{ℕ, _-_, _^_, _≤_, _<_}
 use native.Mathlib.Omega.{arith}
 use lib.ListN.{length, drop, length-drop}
 use lib.Seq.{take-all}
@@ -19,7 +19,6 @@ use Rattle.rules.specs.Replay.{Replay, LineDone, called, freshened, lineDone}
 use Rattle.lines.specs.declared.Call.{Call}
 use Rattle.lines.specs.declared.Call.the-variants.{Fresh, Set, Get, Delete, Unreadable}
 use Rattle.lines.specs.Saying.{said, Inside}
-use Rattle.replay.specs.Front.{Ready}
 use Rattle.replay.specs.Ready.{ReadyState, Runs, runs}
 
 module _ (line : List ℕ) (call : Call) (i : Inside line call) where

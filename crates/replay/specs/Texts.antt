@@ -1,14 +1,12 @@
 -- A text that a line's answer tells lies in the pool.
-use mathlib.Core.Path.{_≡_, refl, sym, ap, _∙_, subst}
+use mathlib.Core.Path.{_≡_, refl, sym, _∙_, subst}
 use mathlib.Core.Bool.{Bool, true, false, cond, not}
-use mathlib.Core.List.{List, _++_}
-use Prim.Native.Nat.{ℕ, _+_, _*_, _≤_, _<_}
+use mathlib.Core.List.{List}
+use Prim.Native.Nat.{ℕ, _+_, _≤_}
 use native.Mathlib.Omega.{arith}
-use lib.Dec.{eqb, leb}
+use lib.Dec.{eqb}
 use lib.ListN.{length, getD}
 use lib.IntN.{ℤ}
-use borrow.Author.Tests.{ne-eqb, eq-eqb}
-use Rattle.rules.specs.declared.Answer.{Answer}
 use Rattle.rules.specs.declared.Entry.{Entry}
 use Rattle.rules.specs.declared.Outcome.{Outcome}
 use Rattle.rules.specs.declared.Outcome.the-variants.{Done, NotSound, Number, Boolean, Text}
@@ -23,9 +21,9 @@ use Rattle.rules.specs.Layout.{cellsOf, valueOffset, numberAt, Memory, memoryOf
 use Rattle.rules.specs.LookUp.{lookUp}
 use Rattle.rules.specs.Recency.{sweep, sweepCount}
 use Rattle.rules.specs.Soundness.{rightLengths, sound}
-use Rattle.rules.specs.Answer.{Fields, fieldsOf}
+use Rattle.rules.specs.Answer.{fieldsOf}
 use Rattle.rules.specs.Checks.{_then_, refuse, checkLengths, checkSound, checkClock, checkKey, checkKind, checkNil, checkLifetime, clockChecks, keyChecks, storeChecks}
-use Rattle.rules.specs.Calls.{Result, Work, call, freshWork, freshCall, afterSweep, shown, getFound, getWork, getCall, deleteFound, deleteWork, deleteCall, Item, fitOutcome, placedBy, placeAnew, searched, sameLength, overwriteAt, did, mostRounds, storeOver, storeItem, admits, storeAdmitted, storeFound, storeWork, itemOf, storeCall}
+use Rattle.rules.specs.Calls.{Work, call, freshWork, freshCall, afterSweep, shown, getFound, getWork, getCall, deleteFound, deleteWork, deleteCall, Item, fitOutcome, placedBy, placeAnew, searched, sameLength, overwriteAt, did, mostRounds, storeOver, storeItem, admits, storeAdmitted, storeFound, storeWork, itemOf, storeCall}
 use Rattle.laws.specs.Lists.{each-at}
 use Rattle.laws.specs.Finding.{Finds, finds}
 use Rattle.laws.specs.SoundMemory.{Fine, SoundMemory}

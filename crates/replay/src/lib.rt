@@ -1,7 +1,7 @@
 // Replay: what lines do to a lent memory, one after the other.
 ghost use mathlib.Core.Path.{_≡_};
 ghost use Prim.Native.Nat.{_+_, _≤_, _<_, _^_};
-ghost use lib.ListN.{length};
+ghost use lib.ListN.{length, take};
 ghost use Rattle.rules.specs.Calls.{getCall, deleteCall, storeCall, freshCall};
 ghost use Rattle.rules.specs.Replay.{called, freshened, lineDone};
 ghost use Rattle.rules.specs.declared.Operation.the-variants.{Set};
@@ -9,6 +9,7 @@ ghost use Rattle.lines.specs.Saying.{said, Inside};
 ghost use Rattle.replay.specs.Front.{Ready, doneAs, state};
 ghost use Rattle.replay.specs.Ready.{Runs};
 ghost use Rattle.replay.specs.Progress.{Lined, Done, room};
+ghost use Rattle.replay.specs.Whole.{held, Behind, Replayed};
 use lines::Call;
 use rules::Answer;
 use rules::Check;
@@ -223,7 +224,7 @@ pub fn run(
 ) -> Progress
     requires { ⌜ Ready cells (now dir) (now pool) ⌝ }
     requires { ⌜ lines + length (now input) < 2 ^ 64 ⌝ }
-    requires { ⌜ length (now out) + room (now pool) < 2 ^ 64 ⌝ }
+    requires { ⌜ room (now pool) ≤ length (now out) ⌝ }
     ensures { λ r. ⌜ Done (state cells (now (dir .entry)) (now (pool .entry))) lines (now (input .entry)) (now (out .entry)) (state (r .cells) (now (dir .exit)) (now (pool .exit))) (r .lines) (r .consumed) (r .written) (now (out .exit)) ⌝ }
 {
     let most = 160 + pool.len();
@@ -231,7 +232,7 @@ pub fn run(
     let mut n = lines;
     let mut at = 0;
     let mut w = 0;
-    while w + most <= out.len() {
+    while most <= out.len() - w {
         let end = scanning::find(input, at, 10);
         if end == input.len() {
             break;
@@ -247,5 +248,56 @@ pub fn run(
         lines: n,
         consumed: at,
         written: w,
+    }
+}
+
+// Keeps the bytes of a line that has not ended, but no more than tell that it is over-long, and answers how many.
+pub fn hold(kept: &mut [u8], rest: &[u8]) -> usize
+    requires { ⌜ 4097 ≤ length (now kept) ⌝ }
+    ensures { λ r. ⌜ (r ≤ 4097) × (take r (now (kept .exit)) ≡ held (now (rest .entry))) ⌝ }
+{
+    if rest.len() <= 4097 {
+        words::copy_in(kept, 0, rest);
+        return rest.len();
+    }
+    words::copy_in(kept, 0, &rest[..4097]);
+    4097
+}
+
+// Does all lines of an input, also a last one that has no end, as long as the output has room.
+fn run_all(dir: &mut [u64], pool: &mut [u8], input: &[u8], out: &mut [u8]) -> Progress
+    requires { ⌜ room (now pool) ≤ length (now out) ⌝ }
+    ensures { λ r. ⌜ Behind (now (input .entry)) (state 0 (now (dir .entry)) (now (pool .entry))) (state (r .cells) (now (dir .exit)) (now (pool .exit))) (r .lines) (r .consumed) (r .written) (now (out .exit)) ⌝ }
+{
+    let p = run(dir, pool, 0, 0, input, out);
+    let done = p.consumed;
+    if done == input.len() {
+        return p;
+    }
+    if out.len() - p.written < 160 + pool.len() {
+        return p;
+    }
+    let n = p.lines + 1;
+    let last = do_line(dir, pool, p.cells, n, &input[done..], out, p.written);
+    Progress {
+        cells: last.cells,
+        lines: n,
+        consumed: input.len(),
+        written: last.end,
+    }
+}
+
+// Replays a whole input from a memory that no `fresh` has touched: the header, and a line of output for each line. It says how far it came, which is to the end where the output has room.
+pub fn replay(dir: &mut [u64], pool: &mut [u8], input: &[u8], out: &mut [u8]) -> Progress
+    requires { ⌜ 160 + room (now pool) ≤ length (now out) ⌝ }
+    ensures { λ r. ⌜ Replayed (now (input .entry)) (now (dir .entry)) (now (pool .entry)) (state (r .cells) (now (dir .exit)) (now (pool .exit))) (r .lines) (r .consumed) (r .written) (now (out .exit)) ⌝ }
+{
+    let begun = printing::write_header(out);
+    let p = run_all(dir, pool, input, &mut out[begun..]);
+    Progress {
+        cells: p.cells,
+        lines: p.lines,
+        consumed: p.consumed,
+        written: begun + p.written,
     }
 }

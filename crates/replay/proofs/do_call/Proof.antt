@@ -1,21 +1,11 @@
 -- `replay::do_call` meets its contract.
 use Rattle.replay.specs.Front.{state}
 use Rattle.replay.specs.Running.{fresh-inside, set-inside, get-inside, delete-inside, fresh-runs, set-runs, get-runs, delete-runs, unreadable-runs}
-use mathlib.Core.Path.{_≡_, refl, sym, ap, _∙_}
-use mathlib.Core.List.{List, [], _∷_, _++_}
-use Prim.Native.Nat.{ℕ, zero, suc, _+_, _-_, _*_, _≤_, _<_}
+use mathlib.Core.Path.{refl}
 use native.Mathlib.Omega.{arith}
-use lib.ListN.{length, take, drop, getD, set, length-set}
 use borrow.Author.Needs.{needs}
 use Rattle.replay.proofs.do_call.Statement.{statement}
 use Rattle.replay.proofs.do_call.Tie as tie
-use Rattle.replay.proofs.do_call.Reads as reads
-use Rattle.replay.proofs.do_call.Lts as lts
-use Rattle.replay.proofs.do_delete.Reads as do-delete-reads
-use Rattle.replay.proofs.do_fresh.Reads as do-fresh-reads
-use Rattle.replay.proofs.do_get.Reads as do-get-reads
-use Rattle.replay.proofs.do_set.Reads as do-set-reads
-use Rattle.rules.proofs.Answer.plain.Reads as plain-reads
 
 enum-known-call : tie.Need-enum-known-call
 enum-known-call c = search needs

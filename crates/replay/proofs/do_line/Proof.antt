@@ -1,19 +1,10 @@
 -- `replay::do_line` meets its contract.
 use Rattle.printing.specs.Printable.{TextInside}
 use Rattle.replay.specs.Progress.{lined}
-use mathlib.Core.Path.{_≡_, refl, sym, ap, _∙_}
-use mathlib.Core.List.{List, [], _∷_, _++_}
-use Prim.Native.Nat.{ℕ, zero, suc, _+_, _-_, _*_, _≤_, _<_}
 use native.Mathlib.Omega.{arith}
-use lib.ListN.{length, take, drop, getD, set, length-set}
 use borrow.Author.Needs.{needs}
 use Rattle.replay.proofs.do_line.Statement.{statement}
 use Rattle.replay.proofs.do_line.Tie as tie
-use Rattle.replay.proofs.do_line.Reads as reads
-use Rattle.replay.proofs.do_line.Lts as lts
-use Rattle.lines.proofs.parse.Reads as parse-reads
-use Rattle.printing.proofs.write_line.Reads as write-line-reads
-use Rattle.replay.proofs.do_call.Reads as do-call-reads
 
 parse-requires : tie.Need-parse-requires
 parse-requires c κs = search needs

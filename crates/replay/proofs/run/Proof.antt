@@ -1,18 +1,12 @@
 -- `replay::run` meets its contract. The loop's invariant: how far the lines are done, and that no length has changed.
 use Rattle.replay.specs.Front.{state}
 use Rattle.replay.specs.Progress.{Doing, doing-none, doing-line, doing-rest, doing-full}
-use mathlib.Core.Path.{_≡_, refl, sym, ap, _∙_}
-use mathlib.Core.List.{List, [], _∷_, _++_}
-use Prim.Native.Nat.{ℕ, zero, suc, _+_, _-_, _*_, _≤_, _<_}
+use mathlib.Core.Path.{_≡_, refl}
+use Prim.Native.Nat.{_+_, _-_}
 use native.Mathlib.Omega.{arith}
-use lib.ListN.{length, take, drop, getD, set, length-set}
-use borrow.Author.Needs.{needs}
+use lib.ListN.{length}
 use Rattle.replay.proofs.run.Statement.{statement}
 use Rattle.replay.proofs.run.Tie as tie
-use Rattle.replay.proofs.run.Reads as reads
-use Rattle.replay.proofs.run.Lts as lts
-use Rattle.replay.proofs.do_line.Reads as do-line-reads
-use Rattle.scanning.proofs.find.Reads as find-reads
 
 abbrev Inv-loop : tie.InvT-loop
 Inv-loop dir₀ pool₀ cells lines input out₀ most used₀ n₀ at₀ w₀ dir pool out used n at w = Doing (state cells dir₀ pool₀) lines input out₀ (state used dir pool) n at w out × (length dir ≡ length dir₀) × (length pool ≡ length pool₀) × (length out ≡ length out₀) × (most ≡ 160 + length pool₀)
@@ -21,13 +15,13 @@ abbrev μ-loop : tie.MeasureT-loop
 μ-loop dir₀ pool₀ cells lines input out₀ most used₀ n₀ at₀ w₀ dir pool out used n at w = length input - at
 
 add-most : tie.Need-add-most Inv-loop μ-loop
-add-most c = omega arith
+add-most c = omega (arith, c .before .before .before .before .pre .1 .1)
 
 loop-holds : tie.Need-loop-holds Inv-loop μ-loop
 loop-holds c = (doing-none (c .before .before .before .before .pre .0), refl, refl, refl, refl)
 
-add-loop : tie.Need-add-loop Inv-loop μ-loop
-add-loop c = omega (arith, c .loop .inv .0 .fits, c .loop .inv .2, c .loop .inv .3, c .loop .inv .4, c .before .before .before .before .before .pre .1 .1)
+sub-loop : tie.Need-sub-loop Inv-loop μ-loop
+sub-loop c = omega (arith, c .loop .inv .0 .fits)
 
 find-requires : tie.Need-find-requires Inv-loop μ-loop
 find-requires c κs = c .before .loop .inv .0 .inside
@@ -88,7 +82,7 @@ run-spec =
     μ-loop
     add-most
     loop-holds
-    add-loop
+    sub-loop
     find-requires
     add-n
     sub-do-line

@@ -1,0 +1,39 @@
+-- `replay::hold` meets its contract.
+use Rattle.replay.specs.Whole.{held-length, hold-all, hold-cut}
+use native.Mathlib.Omega.{arith}
+use borrow.Author.Needs.{needs}
+use Rattle.replay.proofs.hold.Statement.{statement}
+use Rattle.replay.proofs.hold.Tie as tie
+
+copy-in-requires : tie.Need-copy-in-requires
+copy-in-requires c κs = omega (arith, c .before .before .before .before .pre, c .before .if1 .taken)
+
+same-length : tie.Need-same-length
+same-length c = search needs
+
+returns : tie.Need-returns
+returns c = (omega (arith, c .before .before .before .before .if1 .taken), hold-all _ _ (c .before .before .copy-in .ensures) (omega (arith, c .before .before .before .before .if1 .taken)))
+
+slice-aggregate-copy-in : tie.Need-slice-aggregate-copy-in
+slice-aggregate-copy-in c = held-length (c .before .before .before .before .before .args .rest .now) (omega (arith, c .before .before .if1 .left))
+
+copy-in-requires-2 : tie.Need-copy-in-requires-2
+copy-in-requires-2 c κs = omega (arith, c .before .before .before .before .before .pre, held-length (c .before .before .before .before .before .args .rest .now) (omega (arith, c .before .before .if1 .left)))
+
+same-length-2 : tie.Need-same-length-2
+same-length-2 c = search needs
+
+returns-2 : tie.Need-returns-2
+returns-2 c = (omega arith, hold-cut _ (c .before .before .before .before .before .before .before .before .args .rest .now) (c .before .before .copy-in2 .ensures) (omega (arith, c .before .before .before .before .before .if1 .left)))
+
+pub hold-spec : {M : Type 1} → statement M
+hold-spec =
+    tie.close
+    (tie.spec
+    copy-in-requires
+    same-length
+    returns
+    slice-aggregate-copy-in
+    copy-in-requires-2
+    same-length-2
+    returns-2)

@@ -1,0 +1,51 @@
+-- `replay::replay` meets its contract.
+use Rattle.replay.specs.Whole.{headed}
+use native.Mathlib.Omega.{arith}
+use borrow.Author.Needs.{needs}
+use Rattle.replay.proofs.replay.Statement.{statement}
+use Rattle.replay.proofs.replay.Tie as tie
+
+write-header-requires : tie.Need-write-header-requires
+write-header-requires c κs = search needs
+
+sub-run-all : tie.Need-sub-run-all
+sub-run-all c = search needs
+
+part-run-all-start : tie.Need-part-run-all-start
+part-run-all-start c = search needs
+
+part-run-all-end : tie.Need-part-run-all-end
+part-run-all-end c = search needs
+
+run-all-requires : tie.Need-run-all-requires
+run-all-requires c κs = search needs
+
+add-t14 : tie.Need-add-t14
+add-t14 c = search needs
+
+same-length : tie.Need-same-length
+same-length c = search needs
+
+same-length-2 : tie.Need-same-length-2
+same-length-2 c = search needs
+
+same-length-3 : tie.Need-same-length-3
+same-length-3 c = search needs
+
+returns : tie.Need-returns
+returns c = headed _ _ _ _ (c .before .before .before .before .before .before .before .before .before .before .before .before .before .write-header .ensures .0) (c .before .before .before .before .before .before .before .before .before .before .before .before .before .write-header .ensures .1) (omega (arith, c .before .before .before .before .before .before .before .before .before .before .before .before .before .before .before .before .before .before .before .pre, c .before .before .before .before .before .before .before .before .before .before .before .before .before .write-header .ensures .1)) (c .before .before .before .before .before .before .before .run-all .ensures) (omega (arith, c .before .before .before .before .before .before .before .run-all .kept, c .before .before .before .before .before .before .before .before .before .before .before .before .before .write-header .kept, c .before .before .before .before .before .before .before .before .before .before .before .before .before .write-header .ensures .1))
+
+pub replay-spec : {M : Type 1} → statement M
+replay-spec =
+    tie.close
+    (tie.spec
+    write-header-requires
+    sub-run-all
+    part-run-all-start
+    part-run-all-end
+    run-all-requires
+    add-t14
+    same-length
+    same-length-2
+    same-length-3
+    returns)

@@ -1,0 +1,178 @@
+-- A whole input, at once or in pieces.
+use mathlib.Core.Path.{_≡_, refl, sym, ap, _∙_}
+use mathlib.Core.Bool.{Bool, true, false, cond}
+use mathlib.Core.List.{List, [], _∷_, _++_, append-nil, append-assoc}
+use Prim.Native.Nat.{ℕ, _+_, _-_, _≤_, _<_}
+use native.Mathlib.Omega.{arith}
+use lib.Dec.{eqb, leb}
+use lib.ListN.{length, take, drop, length-append, length-drop, take-append-drop, drop-of-length-le}
+use lib.Seq.{take-all, take-at, length-take-le}
+use borrow.Author.Tests.{ne-eqb, lt-leb, leb-true, leb-false}
+use Rattle.rules.specs.Soundness.{every}
+use Rattle.rules.specs.Layout.{part, put}
+use Rattle.laws.specs.LayoutLaws.{length-put}
+use Rattle.rules.specs.Replay.{linesFrom, linesOf, LineCall, unreadable, callOf, Replay, lineDone, lineWritten, Written, linesDone, header, replayOf}
+use Rattle.scanning.specs.Until.{other}
+use Rattle.replay.specs.Front.{state}
+use Rattle.replay.specs.LineLaws.{lines-plain, lines-cut, lines-open, before}
+use Rattle.replay.specs.Progress.{room, Done, Lined, written, doneLine, take-put}
+
+-- ---- a line that has not ended
+
+-- what is kept of its bytes
+abbrev pub held : List ℕ → List ℕ
+held rest = take 4097 rest
+
+over-long : (line : List ℕ) → 4096 < length line → callOf line ≡ unreadable
+unfolding callOf
+over-long line h = rw (lt-leb (length line) 4096 h)
+
+-- two calls that are the same are done alike
+head-same : (n : ℕ) (a b : List ℕ) (lines : List (List ℕ)) (s : Replay) → callOf a ≡ callOf b → linesDone n (a ∷ lines) s ≡ linesDone n (b ∷ lines) s
+unfolding linesDone
+head-same n a b lines s e =
+    ap
+    (λ (c : LineCall).
+    record {
+      output = lineWritten n (lineDone c s .answer) (lineDone c s .after .pool) ++ linesDone (n + 1) lines (lineDone c s .after) .output;
+      left = linesDone (n + 1) lines (lineDone c s .after) .left;
+    })
+    e
+
+-- whatever an over-long line begins with and goes on with, it is done alike
+long-same : (n : ℕ) (a b more : List ℕ) (s : Replay) → 4096 < length a → 4096 < length b → linesDone n (linesFrom a more) s ≡ linesDone n (linesFrom b more) s
+unfolding linesFrom
+long-same n a b [] s ha hb =
+    ap (λ (c : Bool). linesDone n (cond c [] (a ∷ [])) s) (ne-eqb (length a) 0 (λ z. absurd (omega (arith, z))))
+    ∙ head-same n a b [] s (over-long a ha ∙ sym (over-long b hb))
+    ∙ sym (ap (λ (c : Bool). linesDone n (cond c [] (b ∷ [])) s) (ne-eqb (length b) 0 (λ z. absurd (omega (arith, z)))))
+long-same n a b (x ∷ more) s ha hb =
+    go (eqb x 10) (long-same n (a ++ (x ∷ [])) (b ++ (x ∷ [])) more s (omega (arith, length-append a (x ∷ []))) (omega (arith, length-append b (x ∷ []))))
+  where
+    go : (c : Bool) → linesDone n (linesFrom (a ++ (x ∷ [])) more) s ≡ linesDone n (linesFrom (b ++ (x ∷ [])) more) s → linesDone n (cond c (a ∷ linesFrom [] more) (linesFrom (a ++ (x ∷ [])) more)) s ≡ linesDone n (cond c (b ∷ linesFrom [] more) (linesFrom (b ++ (x ∷ [])) more)) s
+    go true h = head-same n a b (linesFrom [] more) s (over-long a ha ∙ sym (over-long b hb))
+    go false h = h
+
+-- what is kept of a line that has not ended does for it, whatever follows
+pub held-same : (rest more : List ℕ) (n : ℕ) (s : Replay) → every (other 10) rest ≡ true → every (other 10) (held rest) ≡ true → linesDone n (linesOf (rest ++ more)) s ≡ linesDone n (linesOf (held rest ++ more)) s
+unfolding linesOf
+held-same rest more n s e k = go (leb (length rest) 4097) refl
+  where
+    go : (c : Bool) → leb (length rest) 4097 ≡ c → linesDone n (linesOf (rest ++ more)) s ≡ linesDone n (linesOf (held rest ++ more)) s
+    go true h = ap (λ (x : List ℕ). linesDone n (linesOf (x ++ more)) s) (sym (take-all 4097 rest (leb-true (length rest) 4097 h)))
+    go false h =
+        ap (λ (x : List (List ℕ)). linesDone n x s) (lines-plain [] rest more e)
+        ∙ long-same n rest (held rest) more s (omega (arith, leb-false (length rest) 4097 h)) (omega (arith, leb-false (length rest) 4097 h, length-take-le 4097 rest (omega (arith, leb-false (length rest) 4097 h))))
+        ∙ sym (ap (λ (x : List (List ℕ)). linesDone n x s) (lines-plain [] (held rest) more k))
+
+-- as the code keeps it
+put-front : (d t : List ℕ) → take (length t) (put d 0 t) ≡ t
+unfolding put
+put-front d t = take-at t (drop (0 + length t) d) (length t) refl
+
+pub hold-all : (kept rest : List ℕ) {kept' : List ℕ} → kept' ≡ put kept 0 rest → length rest ≤ 4097 → take (length rest) kept' ≡ held rest
+hold-all kept rest {kept'} e h = ap (take (length rest)) e ∙ put-front kept rest ∙ sym (take-all 4097 rest h)
+
+pub held-length : (rest : List ℕ) → 4097 ≤ length rest → 4097 ≡ length (held rest)
+held-length rest h = sym (length-take-le 4097 rest h)
+
+pub hold-cut : (kept rest : List ℕ) {kept' : List ℕ} → kept' ≡ put kept 0 (held rest) → 4097 ≤ length rest → take 4097 kept' ≡ held rest
+hold-cut kept rest {kept'} e h = ap (take 4097) e ∙ ap (λ (k : ℕ). take k (put kept 0 (held rest))) (held-length rest h) ∙ put-front kept (held rest)
+
+-- with an end: one line
+pub held-ends : (rest : List ℕ) → every (other 10) rest ≡ true → 0 < length rest → linesOf (rest ++ (10 ∷ [])) ≡ linesOf rest
+unfolding linesOf linesFrom
+held-ends rest e h = lines-cut rest [] e ∙ ap (λ (c : Bool). cond c [] (rest ∷ [])) (sym (ne-eqb (length rest) 0 (λ z. absurd (omega (arith, z))))) ∙ sym (lines-open rest e)
+
+-- ---- parts of lists
+
+-- a list, and the first w of another, in front of others
+take-front : (a y c : List ℕ) (n w : ℕ) → length a ≡ n → w ≤ length y → take (n + w) (a ++ (y ++ c)) ≡ a ++ take w y
+take-front a y c n w e h =
+    ap (λ (x : List ℕ). take (n + w) (a ++ (x ++ c))) (sym (take-append-drop w y))
+    ∙ ap (λ (x : List ℕ). take (n + w) (a ++ x)) (append-assoc (take w y) (drop w y) c)
+    ∙ ap (take (n + w)) (sym (append-assoc a (take w y) (drop w y ++ c)))
+    ∙ take-at (a ++ take w y) (drop w y ++ c) (n + w) (length-append a (take w y) ∙ omega (arith, e, length-take-le w y h))
+
+-- ---- lines to the end of the input
+
+-- how far an input is done: `w` bytes are written, and what the rest of the input gives follows them
+pub record Behind (input : List ℕ) (s₀ s : Replay) (lines at w : ℕ) (out : List ℕ) : Type 0 where
+  pub goes : linesDone 1 (linesOf input) s₀ ≡ before (take w out) (linesDone (lines + 1) (linesOf (drop at input)) s)
+  pub fits : w ≤ length out
+  pub ends : w + room (s .pool) ≤ length out → at ≡ length input
+
+module _ {input : List ℕ} {s₀ s : Replay} {lines at w : ℕ} {out₀ out : List ℕ} (d : Done s₀ 0 input out₀ s lines at w out) where
+  run-goes : linesDone 1 (linesOf input) s₀ ≡ before (take w out) (linesDone (lines + 1) (linesOf (drop at input)) s)
+  run-goes =
+      ap (λ (x : List ℕ). linesDone 1 (linesOf x) s₀) (sym (append-nil input))
+      ∙ d .doing .went .goes []
+      ∙ ap (λ (x : List ℕ). before (take w out) (linesDone (lines + 1) (linesOf x) s)) (append-nil (drop at input))
+
+  -- the input is done
+  pub behind-done : at ≡ length input → Behind input s₀ s lines at w out
+  behind-done e = record { goes = run-goes; fits = d .doing .fits; ends = λ r. e }
+
+  -- no room is left
+  pub behind-full : length out < w + room (s .pool) → Behind input s₀ s lines at w out
+  behind-full f = record { goes = run-goes; fits = d .doing .fits; ends = λ r. absurd (omega arith) }
+
+  -- the rest is one line, which has no end
+  pub behind-last : {n : ℕ} {after : Replay} {out' : List ℕ} {w' : ℕ} → n ≡ lines + 1 → at < length input → w + room (s .pool) ≤ length out → Lined n (part input at (length input - at)) s out w after out' w' → Behind input s₀ after n (length input) w' out'
+  unfolding linesDone linesOf linesFrom
+  behind-last {n} {after} {out'} {w'} e i r l =
+      let rest : List ℕ = drop at input in
+      let line : part input at (length input - at) ≡ rest = take-all (length input - at) rest (omega (arith, length-drop at input)) in
+      let one : linesOf rest ≡ rest ∷ [] = lines-open rest (d .stops r) ∙ ap (λ (c : Bool). cond c [] (rest ∷ [])) (ne-eqb (length rest) 0 (λ q. absurd (omega (arith, q, length-drop at input)))) in
+      let t : List ℕ = written n (doneLine rest s) in
+      let o : out' ≡ put out w t = l .out-is ∙ ap (λ (x : List ℕ). put out w (written n (doneLine x s))) line in
+      let p : w' ≡ w + length t = l .end-is ∙ ap (λ (x : List ℕ). w + length (written n (doneLine x s))) line in
+      let a : after ≡ doneLine rest s .after = l .after-is ∙ ap (λ (x : List ℕ). doneLine x s .after) line in
+      let f : w + length t ≤ length out = omega (arith, p, l .end-fits) in
+      let text : take w' out' ≡ take w out ++ t = ap (take w') o ∙ ap (λ (m : ℕ). take m (put out w t)) p ∙ take-put out w t f in
+      record {
+        goes =
+            run-goes
+            ∙ ap (λ (x : List (List ℕ)). before (take w out) (linesDone (lines + 1) x s)) one
+            ∙ ap (λ (m : ℕ). before (take w out) (linesDone m (rest ∷ []) s)) (sym e)
+            ∙ ap (λ (x : List ℕ). record { output = x; left = doneLine rest s .after }) (sym (append-assoc (take w out) t []))
+            ∙ ap (λ (x : List ℕ). record { output = x ++ []; left = doneLine rest s .after }) (sym text)
+            ∙ ap (λ (x : Replay). record { output = take w' out' ++ []; left = x }) (sym a)
+            ∙ ap (λ (x : List ℕ). before (take w' out') (linesDone (n + 1) (linesOf x) after)) (sym (drop-of-length-le input {i = length input} (omega arith)));
+        fits = omega (arith, p, f, ap length o ∙ length-put out w t f);
+        ends = λ q. refl;
+      }
+
+-- ---- the whole output
+
+-- how far an input is done: `w` bytes of the output are written, and what the rest of the input gives follows them
+pub record Replayed (input dir pool : List ℕ) (s : Replay) (lines at w : ℕ) (out : List ℕ) : Type 0 where
+  pub goes : replayOf input dir pool ≡ before (take w out) (linesDone (lines + 1) (linesOf (drop at input)) s)
+  pub ends : w + room (s .pool) ≤ length out → at ≡ length input
+
+-- done to its end: the output is this, and so is the memory
+pub replayed-whole : {input dir pool : List ℕ} {s : Replay} {lines at w : ℕ} {out : List ℕ} → Replayed input dir pool s lines at w out → at ≡ length input → replayOf input dir pool ≡ record { output = take w out; left = s }
+unfolding linesDone linesOf linesFrom
+replayed-whole {input} {dir} {pool} {s} {lines} {at} {w} {out} r e =
+    r .goes
+    ∙ ap (λ (l : List ℕ). before (take w out) (linesDone (lines + 1) (linesOf l) s)) (drop-of-length-le input {i = at} (omega (arith, e)))
+    ∙ ap (λ (t : List ℕ). record { output = t; left = s }) (append-nil (take w out))
+
+-- the header, and behind it the lines
+pub headed : (input dir pool out : List ℕ) {out₁ ys : List ℕ} {b : ℕ} {s : Replay} {lines at w : ℕ} → out₁ ≡ put out 0 header → b ≡ length header → b ≤ length out → Behind input (state 0 dir pool) s lines at w ys → length ys ≡ length out₁ - b → Replayed input dir pool s lines at (b + w) (take b out₁ ++ (ys ++ drop (length out₁ - b) (drop b out₁)))
+unfolding put replayOf
+headed input dir pool out {out₁} {ys} {b} {s} {lines} {at} {w} h l f g n =
+    let tail : List ℕ = drop (length out₁ - b) (drop b out₁) in
+    let rest : Written = linesDone (lines + 1) (linesOf (drop at input)) s in
+    let front : take b out₁ ≡ header = ap (take b) h ∙ take-at header (drop (0 + length header) out) b (sym l) in
+    let text : take (b + w) (take b out₁ ++ (ys ++ tail)) ≡ header ++ take w ys =
+    ap (λ (x : List ℕ). take (b + w) (x ++ (ys ++ tail))) front ∙ take-front header ys tail b w (sym l) (g .fits) in
+    let size : length (take b out₁ ++ (ys ++ tail)) ≡ b + length ys =
+    length-append (take b out₁) (ys ++ tail) ∙ omega (arith, ap length front, l, length-append ys tail, length-drop (length out₁ - b) (drop b out₁), length-drop b out₁) in
+    record {
+      goes =
+          ap (before header) (g .goes)
+          ∙ ap (λ (t : List ℕ). record { output = t; left = rest .left }) (sym (append-assoc header (take w ys) (rest .output)))
+          ∙ ap (λ (t : List ℕ). before t rest) (sym text);
+      ends = λ r. g .ends (omega (arith, size));
+    }
