@@ -24,7 +24,7 @@ fn do_get(dir: &mut [u64], pool: &mut [u8], cells: usize, clock: u64, key: &[u8]
     ensures { λ r. ⌜ doneAs r cells (now (dir .exit)) (now (pool .exit)) ≡ called (λ d p. getCall d p clock (now (key .entry))) (state cells (now (dir .entry)) (now (pool .entry))) ⌝ }
 {
     if cells == 0 {
-        return Answer::plain(Outcome::NotSound, 0);
+        return Answer::plain(Outcome::NotSound, 0); // no `fresh` yet: there is nothing to look in
     }
     let check = checks::key_arguments(clock, key);
     if let Check::Refused(o) = check {
@@ -46,7 +46,7 @@ fn do_delete(dir: &mut [u64], pool: &mut [u8], cells: usize, clock: u64, key: &[
     if cells == 0 {
         return Answer::plain(Outcome::NotSound, 0);
     }
-    let check = checks::key_arguments(clock, key);
+    let check = checks::key_arguments(clock, key); // a delete checks its clock too
     if let Check::Refused(o) = check {
         return Answer::plain(o, 0);
     }
@@ -112,7 +112,7 @@ fn do_fresh(dir: &mut [u64], pool: &mut [u8], cells: usize, count: usize) -> Ran
     if dir.len() < words {
         return Ran {
             cells,
-            answer: Answer::plain(Outcome::NotSound, 0),
+            answer: Answer::plain(Outcome::NotSound, 0), // too few words are lent
         };
     }
     if pool.len() < bytes {
