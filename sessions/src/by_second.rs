@@ -5,7 +5,7 @@ use second::Answer;
 use crate::call::{Args, Call, Name, Reply, Words};
 
 /// The caller's own notice, for show: no part of any pool.
-static NOTICE: &[u8] = b"no text";
+pub static NOTICE: &[u8] = b"no text";
 
 /// Makes the call.
 pub fn run(dir: &mut [u64], pool: &mut [u8], call: &Call) -> Reply {

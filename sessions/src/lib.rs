@@ -10,20 +10,27 @@
 //! | `keys`, `arguments` | what the calls of a session are given |
 //! | `handmade`, `corrupt` | memories made by hand: sound, changed, wild |
 //! | `session`, `coverage`, `difference` | long random sessions, what they reached, and a difference told |
+//! | `vectors`, `limits`, `vector_files` | small calls of the second program, as equations with the definitions of crate `rules` |
+//! | `definitions`, `antt` | those definitions, and how antt writes numbers and lists |
 //!
-//! Binary `sessions` runs the sessions.
+//! Binary `sessions` runs the sessions, and `vectors` writes the vectors.
 
+pub mod antt;
 pub mod arguments;
 pub mod by_library;
 pub mod by_second;
 pub mod call;
 pub mod corrupt;
 pub mod coverage;
+pub mod definitions;
 pub mod difference;
 pub mod duel;
 pub mod handmade;
 pub mod keys;
 pub mod lent;
+pub mod limits;
 pub mod memory;
 pub mod random;
 pub mod session;
+pub mod vector_files;
+pub mod vectors;
