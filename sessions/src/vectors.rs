@@ -99,7 +99,7 @@ fn class(vector: &Vector) -> Class {
     let store = matches!(name, Name::Set | Name::SafeSet | Name::Add | Name::SafeAdd | Name::Replace);
     let counts = matches!(name, Name::Ttl | Name::GetKeys);
     let features = [
-        own_entry(vector),
+        met(vector),
         8 * rounds.min(2) + removed.min(4),
         stale,
         if store { u64::from(args.kind) } else { kind },
@@ -109,11 +109,23 @@ fn class(vector: &Vector) -> Class {
     Class { name: *name, outcome, features }
 }
 
-/// The entry under the call's key before it: none, live, dead; and of another length than the value given, or of the same.
-fn own_entry(vector: &Vector) -> u64 {
+/// What the call's key, or the place that bytes_at is asked for, meets.
+fn met(vector: &Vector) -> u64 {
     let Vector { before, call, .. } = vector;
     let args = &call.args;
-    let found = second::get_stale(&before.dir, &before.pool, args.clock, &args.key);
+    if call.name == Name::BytesAt {
+        let (end, pool) = (u128::from(args.offset) + u128::from(args.length), before.pool.len() as u128);
+        return 4 * u64::from(end == pool) + 2 * u64::from(end > pool) + u64::from(args.length > 0);
+    }
+    // the sweep may take the key's entry before the call looks for it
+    let mut swept = before.clone();
+    second::get(&mut swept.dir, &swept.pool, args.clock, b"no such key");
+    8 * own_entry(before, args) + own_entry(&swept, args)
+}
+
+/// The entry under the key: none, live, dead; and of another length than the value given, or of the same.
+fn own_entry(memory: &Memory, args: &Args) -> u64 {
+    let found = second::get_stale(&memory.dir, &memory.pool, args.clock, &args.key);
     if found.outcome != 0 {
         return 0;
     }

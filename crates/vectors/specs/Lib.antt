@@ -7,3 +7,4 @@ pub mod Vectors06
 pub mod Vectors07
 pub mod Vectors08
 pub mod Vectors09
+pub mod Vectors10
