@@ -12,11 +12,13 @@
 //! | `session`, `coverage`, `difference` | long random sessions, what they reached, and a difference told |
 //! | `vectors`, `limits`, `vector_files` | small calls of the second program, as equations with the definitions of crate `rules` |
 //! | `definitions`, `antt` | those definitions, and how antt writes numbers and lists |
+//! | [`bench`] | times of both programs |
 //!
-//! Binary `sessions` runs the sessions, and `vectors` writes the vectors.
+//! Binary `sessions` runs the sessions, `vectors` writes the vectors, and `bench` takes the times.
 
 pub mod antt;
 pub mod arguments;
+pub mod bench;
 pub mod by_library;
 pub mod by_second;
 pub mod call;
