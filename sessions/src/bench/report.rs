@@ -1,0 +1,186 @@
+//! The times as a table on standard output and as docs/BENCHMARKS.md.
+
+use std::fs;
+
+use crate::bench::rows::{Row, SIZES};
+use crate::bench::timing::Times;
+
+/// A row with its times.
+pub struct Measured {
+    pub row: Row,
+    pub times: Times,
+}
+
+/// The soundness test's time on the memory of a row, of both programs.
+fn soundness(measured: &[Measured], row: &Row) -> Option<Times> {
+    let alone = |other: &&Measured| {
+        other.row.case == "soundness test alone" && other.row.cells == row.cells && other.row.state == row.state
+    };
+    measured.iter().find(alone).map(|other| other.times)
+}
+
+/// How much of a row's time the soundness test takes, in percent. Make fresh does not test.
+fn shares(measured: &[Measured], one: &Measured) -> Option<(f64, f64)> {
+    let test = soundness(measured, &one.row).filter(|_| one.row.call.name.text() != "make_fresh")?;
+    Some((100.0 * test.library / one.times.library, 100.0 * test.second / one.times.second))
+}
+
+/// The table, for standard output.
+pub fn print(measured: &[Measured]) {
+    println!("{:>5}  {:6} {:36}{:>12}{:>12}{:>8}", "P", "memory", "call", "library ns", "second ns", "ratio");
+    for one in measured {
+        let (row, times) = (&one.row, one.times);
+        let (library, second) = (number(times.library), number(times.second));
+        println!(
+            "{:>5}  {:6} {:36}{library:>12}{second:>12}{:>8.2}",
+            row.cells,
+            row.state,
+            one.row.label(),
+            times.ratio()
+        );
+    }
+}
+
+/// Three digits at least.
+fn number(nanoseconds: f64) -> String {
+    if nanoseconds < 100.0 {
+        format!("{nanoseconds:.1}")
+    } else {
+        thousands(nanoseconds.round() as usize)
+    }
+}
+
+/// The whole of docs/BENCHMARKS.md.
+pub fn markdown(measured: &[Measured]) -> String {
+    let mut text = format!("{}\nProcessor: {}.\n\n", HEAD, processor());
+    text.push_str(&crowds(measured));
+    text.push_str("![Ratios of the times](benchmarks.svg)\n\n## Summary\n\n");
+    text.push_str(&summary(measured));
+    text.push_str("\n## Where the library is slower\n\n");
+    text.push_str(&slower(measured));
+    for cells in SIZES {
+        text.push_str(&format!("\n## P = {}\n\n", thousands(cells)));
+        text.push_str("| memory | call | library | second | ratio | soundness, library | soundness, second |\n");
+        text.push_str("|---|---|---:|---:|---:|---:|---:|\n");
+        for one in measured.iter().filter(|one| one.row.cells == cells) {
+            text.push_str(&line(measured, one));
+        }
+    }
+    text
+}
+
+const HEAD: &str = "\
+# Times
+
+Each call of the proved library, through the C interface, beside the same call of the independent second program \
+(`second/`, plain Rust), in one run. Written by
+
+    cargo run --release --offline --bin bench
+
+in `sessions/`, which takes about one minute and a half; `--quick` prints a short run and writes nothing.
+
+How it is measured: both programs run in the same process, built for release, pinned to no core. A batch is one call \
+on each of some copies of the same memory (as many as stay in the nearest cache, 1 at P = 1,024), which are restored \
+before the batch and outside the time taken. Batches of both programs take turns. All rows are timed eight times over, \
+in turn. Other work on the machine makes both slower for a while; so the pairs of batches are sorted by the sum of \
+their times, and the times here are medians over the quietest quarter of the pairs, without the time of reading the \
+clock, in nanoseconds a call. A ratio below 1 means that the library is faster. Before a row is timed, both programs \
+make the call, and all that they answer and leave is compared. bytes_at is not timed: it only compares three numbers.
+
+A tight loop's time also depends on where the linker happens to put it. Between two builds the same row may move by up \
+to a third, the look-up and the search for a place most of all.
+
+The memories: plates of ten bytes with a weight (texts for show) in one cell each, none, half of the pool or all of \
+it, never expiring unless the row says so; front, middle and last are places in the use order. In a crowd the plates \
+were last used in any order, so that two cells side by side become free late.
+
+Every call but make_fresh tests first whether the memory is sound, at a cost that grows with P. The row \"soundness \
+test alone\" is a get_stale with the clock 0, which is refused right behind that test; the last two columns give its \
+share of the call's time, by its time on plates with weights.
+";
+
+fn line(measured: &[Measured], one: &Measured) -> String {
+    let (row, times) = (&one.row, one.times);
+    let share = |share: f64| format!("{:.0} %", share.min(100.0));
+    let (library, second) = match shares(measured, one) {
+        Some((library, second)) => (share(library), share(second)),
+        None => (String::new(), String::new()),
+    };
+    let (by_library, by_second) = (number(times.library), number(times.second));
+    format!(
+        "| {} | {} | {by_library} | {by_second} | {:.2} | {library} | {second} |\n",
+        row.state,
+        one.row.label(),
+        times.ratio()
+    )
+}
+
+/// How many rounds the sets in a crowd run.
+fn crowds(measured: &[Measured]) -> String {
+    let rounds = measured.iter().filter(|one| one.row.case.ends_with("crowd")).filter_map(|one| {
+        let (_, rounds) = one.row.answer?;
+        Some(format!("{rounds} rounds at P = {}", thousands(one.row.cells)))
+    });
+    format!("The sets in a crowd run {}.\n\n", rounds.collect::<Vec<_>>().join(" and "))
+}
+
+/// For each size: how many rows, the ratio in the middle, the worst and the best.
+fn summary(measured: &[Measured]) -> String {
+    let mut text = String::from("| P | rows | median ratio | best | worst | rows where the library is slower |\n");
+    text.push_str("|---:|---:|---:|---:|---:|---:|\n");
+    for cells in SIZES {
+        let mut ratios: Vec<f64> =
+            measured.iter().filter(|one| one.row.cells == cells).map(|one| one.times.ratio()).collect();
+        ratios.sort_unstable_by(f64::total_cmp);
+        let (Some(best), Some(worst)) = (ratios.first(), ratios.last()) else { continue };
+        let slower = ratios.iter().filter(|&&ratio| ratio > 1.0).count();
+        let middle = ratios[ratios.len() / 2];
+        text.push_str(&format!(
+            "| {} | {} | {middle:.2} | {best:.2} | {worst:.2} | {slower} |\n",
+            thousands(cells),
+            ratios.len()
+        ));
+    }
+    text
+}
+
+/// The rows whose ratio is above 1, the worst first.
+fn slower(measured: &[Measured]) -> String {
+    let mut slower: Vec<&Measured> = measured.iter().filter(|one| one.times.ratio() > 1.0).collect();
+    slower.sort_unstable_by(|a, b| b.times.ratio().total_cmp(&a.times.ratio()));
+    if slower.is_empty() {
+        return String::from("Nowhere.\n");
+    }
+    let mut text = String::from("| ratio | P | memory | call | library | second |\n|---:|---:|---|---|---:|---:|\n");
+    for one in slower {
+        let (row, times) = (&one.row, one.times);
+        text.push_str(&format!(
+            "| {:.2} | {} | {} | {} | {} | {} |\n",
+            times.ratio(),
+            thousands(row.cells),
+            row.state,
+            one.row.label(),
+            number(times.library),
+            number(times.second)
+        ));
+    }
+    text
+}
+
+/// 1024 as 1,024.
+pub fn thousands(number: usize) -> String {
+    if number < 1000 {
+        number.to_string()
+    } else {
+        format!("{},{:03}", thousands(number / 1000), number % 1000)
+    }
+}
+
+/// The processor as the system names it.
+fn processor() -> String {
+    let text = fs::read_to_string("/proc/cpuinfo").unwrap_or_default();
+    let model = text.lines().find_map(|line| line.strip_prefix("model name"));
+    model
+        .and_then(|line| line.split_once(':'))
+        .map_or_else(|| String::from("not known"), |(_, name)| name.trim().into())
+}

@@ -1,0 +1,61 @@
+//! The two buffers of a memory, of any lengths and contents; and the records of a directory, as words.
+
+/// Bytes of a cell.
+pub const CELL: usize = 32;
+/// The most cells of a pool.
+pub const MOST_CELLS: usize = 1024;
+/// Words before the first record.
+pub const HEAD: usize = 2;
+/// Words of a record: expiry, kind, flags, start cell, key length, value length.
+pub const RECORD: usize = 6;
+
+/// The directory and the pool, as handed to a call.
+#[derive(Clone, Debug, Default, PartialEq, Eq)]
+pub struct Memory {
+    /// The words.
+    pub dir: Vec<u64>,
+    /// The bytes.
+    pub pool: Vec<u8>,
+}
+
+impl Memory {
+    /// Buffers of the right lengths for so many cells, all zero (not yet a sound memory).
+    pub fn blank(cells: usize) -> Memory {
+        Memory { dir: vec![0; HEAD + RECORD * cells], pool: vec![0; CELL * cells] }
+    }
+
+    /// An empty memory of so many cells.
+    pub fn fresh(cells: usize) -> Memory {
+        let mut memory = Memory::blank(cells);
+        memory.dir[0] = 1;
+        memory
+    }
+
+    /// How many whole cells the pool has.
+    pub fn cells(&self) -> usize {
+        self.pool.len() / CELL
+    }
+
+    /// How many records the directory says it has, as far as it has room for them.
+    pub fn count(&self) -> usize {
+        let room = self.dir.len().saturating_sub(HEAD) / RECORD;
+        let said = self.dir.get(1).map_or(0, |&word| usize::try_from(word).unwrap_or(usize::MAX));
+        said.min(room)
+    }
+
+    /// The six words of the record at a slot.
+    pub fn record(&self, slot: usize) -> &[u64] {
+        &self.dir[HEAD + RECORD * slot..HEAD + RECORD * (slot + 1)]
+    }
+
+    /// The same, to be changed.
+    pub fn record_mut(&mut self, slot: usize) -> &mut [u64] {
+        &mut self.dir[HEAD + RECORD * slot..HEAD + RECORD * (slot + 1)]
+    }
+
+    /// Takes over the contents of another memory, without making new buffers where the old ones have room.
+    pub fn copy(&mut self, other: &Memory) {
+        self.dir.clone_from(&other.dir);
+        self.pool.clone_from(&other.pool);
+    }
+}
