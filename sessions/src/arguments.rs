@@ -96,8 +96,9 @@ fn lifetime(random: &mut Random, clock: u64) -> u64 {
 fn text(random: &mut Random, memory: &Memory, key: usize) -> Vec<u8> {
     let cells = memory.cells().min(MOST_CELLS);
     let length = match random.below(32) {
-        // where there may be more than thirty rounds to run, about as many cells
-        0..=11 if cells >= MANY => edge(random, 29, 31, key),
+        // where there may be more than thirty rounds to run, about as many cells, or less
+        0..=12 if cells >= MANY => edge(random, 29, 31, key),
+        13..=20 if cells >= MANY => edge(random, 5, 28, key),
         0..=6 => random.pick(&[0, 1, 8, 31, 32, 33]),
         7..=12 => some_value_length(random, memory),
         13..=20 => edge(random, 1, 4, key),

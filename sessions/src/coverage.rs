@@ -6,8 +6,10 @@ use crate::call::{Call, Name, Reply, Words, NAMES};
 const OUTCOMES: usize = 13;
 /// "at most 30 rounds"
 const MOST_ROUNDS: usize = 30;
-/// From so many calls on everything has to be reached.
-pub const ENOUGH: u64 = 100_000;
+/// From so many calls on everything has to be reached, but for
+const ENOUGH: u64 = 100_000;
+/// every single number of rounds, which takes so many.
+const ENOUGH_FOR_EACH_ROUND: u64 = 300_000;
 
 /// What the memory of a call was.
 #[derive(Clone, Copy, Debug, PartialEq, Eq)]
@@ -60,9 +62,32 @@ impl Coverage {
         }
     }
 
-    /// All that had to be reached and was not, and all that must not be reached and was.
-    pub fn failures(&self) -> Vec<String> {
-        NAMES.iter().zip(&self.calls).flat_map(|(&name, counts)| counts.failures(name)).collect()
+    /// All that so many calls had to reach and did not, and all that they must not reach and did.
+    pub fn failures(&self, calls: u64) -> Vec<String> {
+        let mut failures: Vec<String> = Vec::new();
+        if calls >= ENOUGH {
+            failures.extend(NAMES.iter().zip(&self.calls).flat_map(|(&name, counts)| counts.failures(name)));
+        }
+        if calls >= ENOUGH_FOR_EACH_ROUND {
+            let missing = (0..).zip(self.stored_after()).filter(|&(_, count)| count == 0);
+            failures.extend(missing.map(|(rounds, _): (u64, _)| format!("nothing was stored after {rounds} rounds")));
+        }
+        failures
+    }
+
+    /// How many entries were stored after so many rounds, by all calls that may run them.
+    fn stored_after(&self) -> [u64; MOST_ROUNDS + 1] {
+        let mut stored = [0; MOST_ROUNDS + 1];
+        for (_, counts) in self.running_rounds() {
+            for (sum, count) in stored.iter_mut().zip(counts.rounds) {
+                *sum += count;
+            }
+        }
+        stored
+    }
+
+    fn running_rounds(&self) -> impl Iterator<Item = (Name, &Counts)> {
+        NAMES.into_iter().zip(&self.calls).filter(|(name, _)| name.runs_rounds())
     }
 
     /// The counts as lines.
@@ -73,23 +98,28 @@ impl Coverage {
             let cells: String = counts.scenes.iter().map(|count| format!("{count:>10}")).collect();
             println!("{:14}{cells}", name.text());
         }
+        self.print_rounds();
+        let removed: u64 = self.calls.iter().map(|counts| counts.removed).sum();
+        let most = self.running_rounds().map(|(_, counts)| counts.most_removed).max().unwrap_or(0);
+        println!("answers with removed above 0: {removed}; the most that a store removed: {most}");
+        let [fresh, stale] = self.calls[Name::GetStale as usize].stale;
+        println!("get_stale's answers without and with the stale mark: {fresh}, {stale}");
+    }
+
+    fn print_rounds(&self) {
         println!(
             "\n{:14}{:>9}{:>9}{:>9}{:>9}{:>16}{:>9}",
             "rounds", "0", "1", "2 to 29", "30", "12 after 30", "forced"
         );
-        for (name, counts) in NAMES.iter().zip(&self.calls).filter(|(name, _)| name.runs_rounds()) {
+        for (name, counts) in self.running_rounds() {
             let rounds = &counts.rounds;
             let some: u64 = rounds[2..MOST_ROUNDS].iter().sum();
             let (none, one, all) = (rounds[0], rounds[1], rounds[MOST_ROUNDS]);
             let (twelve, forced) = (counts.twelve_after_all, counts.forced[1]);
             println!("{:14}{none:>9}{one:>9}{some:>9}{all:>9}{twelve:>16}{forced:>9}", name.text());
         }
-        let removed: u64 = self.calls.iter().map(|counts| counts.removed).sum();
-        let [fresh, stale] = self.calls[Name::GetStale as usize].stale;
-        let most = self.calls.iter().zip(NAMES).filter(|(_, name)| name.runs_rounds());
-        let most = most.map(|(counts, _)| counts.most_removed).max().unwrap_or(0);
-        println!("\nanswers with removed above 0: {removed}; the most that a store removed: {most}");
-        println!("get_stale's answers without and with the stale mark: {fresh}, {stale}");
+        let stored: Vec<String> = self.stored_after().iter().map(u64::to_string).collect();
+        println!("\nstored after 0 to 30 rounds: {}", stored.join(" "));
     }
 
     fn print_outcomes(&self) {
@@ -179,7 +209,7 @@ mod tests {
             coverage.count(scene, &call, &Reply::Answer([0; 10]));
         }
         let failures = |coverage: &Coverage| -> Vec<String> {
-            coverage.failures().into_iter().filter(|line| line.starts_with("flush_all")).collect()
+            coverage.failures(ENOUGH).into_iter().filter(|line| line.starts_with("flush_all")).collect()
         };
         assert_eq!(failures(&coverage), ["flush_all: outcome 1 was not reached"]);
         coverage.count(Scene::Fresh, &call, &Reply::Answer([1, 0, 0, 0, 0, 0, 0, 0, 0, 0]));

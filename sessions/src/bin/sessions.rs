@@ -6,7 +6,6 @@ use std::io::{stderr, IsTerminal, Write};
 use std::process::ExitCode;
 use std::time::{Duration, Instant};
 
-use sessions::coverage::ENOUGH;
 use sessions::difference;
 use sessions::duel::Difference;
 use sessions::session::Session;
@@ -71,7 +70,7 @@ fn finish(session: &Session, options: &Options) -> ExitCode {
         options.seed, options.calls
     );
     session.coverage().print();
-    let failures = if options.calls >= ENOUGH { session.coverage().failures() } else { Vec::new() };
+    let failures = session.coverage().failures(options.calls);
     for failure in &failures {
         println!("{failure}");
     }
