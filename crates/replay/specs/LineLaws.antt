@@ -2,11 +2,11 @@
 use mathlib.Core.Path.{_≡_, refl, sym, ap, _∙_}
 use mathlib.Core.Bool.{Bool, true, cond}
 use mathlib.Core.List.{List, [], _∷_, _++_, append-assoc, append-nil}
-use Prim.Native.Nat.{ℕ, suc, _+_, _-_, _<_}
+use Prim.Native.Nat.{ℕ, suc, _+_, _-_, _≤_, _<_}
 use native.Mathlib.Omega.{arith}
 use lib.Dec.{eqb}
-use lib.ListN.{length, drop, take-append-drop}
-use lib.Seq.{drop-cons, drop-drop}
+use lib.ListN.{take, length-append, length-drop, length, drop, take-append-drop}
+use lib.Seq.{drop-cons, drop-drop, take-at, length-take-le}
 use borrow.Author.Tests.{not-true}
 use Rattle.rules.specs.Layout.{part}
 use Rattle.rules.specs.Soundness.{every}
@@ -43,6 +43,42 @@ cut-at {input} {at} {end} u h =
     sym (take-append-drop k (drop at input))
     ∙ ap (λ (x : List ℕ). part input at k ++ x)
     (drop-drop k at input ∙ ap (λ (m : ℕ). drop m input) e ∙ drop-cons input end 0 h ∙ ap (λ (b : ℕ). b ∷ drop (suc end) input) (u .there h) ∙ ap (λ (m : ℕ). 10 ∷ drop m input) next)
+
+-- ---- whole lines at the front of an input
+
+-- the first `at` bytes are whole lines, whatever follows them, and with these `lines₀` lines have become `lines`
+pub record Cut (input : List ℕ) (at lines₀ lines : ℕ) : Type 0 where
+  pub whole : (more : List ℕ) → linesOf (take at input ++ more) ≡ linesOf (take at input) ++ linesOf more
+  pub count : lines₀ + length (linesOf (take at input)) ≡ lines
+
+pub cut-none : (input : List ℕ) (n : ℕ) → Cut input 0 n n
+unfolding linesOf linesFrom
+cut-none input n = record { whole = λ more. refl; count = omega arith }
+
+pub cut-line : {input : List ℕ} {at end lines₀ lines : ℕ} → Cut input at lines₀ lines → at ≤ length input → Until 10 input at end → end < length input → Cut input (end + 1) lines₀ (lines + 1)
+unfolding linesOf linesFrom
+cut-line {input} {at} {end} {lines₀} {lines} c i u h =
+    let a : List ℕ = take at input in
+    let line : List ℕ = part input at (end - at) in
+    let behind : List ℕ = drop (end + 1) input in
+    let size : length (a ++ (line ++ (10 ∷ []))) ≡ end + 1 =
+    length-append a (line ++ (10 ∷ []))
+    ∙ omega (arith, length-take-le at input i, length-append line (10 ∷ []), length-take-le (end - at) (drop at input) (omega (arith, length-drop at input, u .after, u .inside)), u .after) in
+    let all : input ≡ (a ++ (line ++ (10 ∷ []))) ++ behind =
+    sym (take-append-drop at input)
+    ∙ ap (λ (x : List ℕ). a ++ x) (cut-at u h ∙ sym (append-assoc line (10 ∷ []) behind))
+    ∙ sym (append-assoc a (line ++ (10 ∷ [])) behind) in
+    let front : take (end + 1) input ≡ a ++ (line ++ (10 ∷ [])) = ap (take (end + 1)) all ∙ take-at (a ++ (line ++ (10 ∷ []))) behind (end + 1) size in
+    let one : (more : List ℕ) → linesOf (take (end + 1) input ++ more) ≡ linesOf a ++ (line ∷ linesOf more) = λ more.
+    ap (λ (x : List ℕ). linesOf (x ++ more)) front
+    ∙ ap linesOf (append-assoc a (line ++ (10 ∷ [])) more ∙ ap (λ (x : List ℕ). a ++ x) (append-assoc line (10 ∷ []) more))
+    ∙ c .whole (line ++ (10 ∷ more))
+    ∙ ap (λ (x : List (List ℕ)). linesOf a ++ x) (lines-cut line more (u .nowhere)) in
+    let now : linesOf (take (end + 1) input) ≡ linesOf a ++ (line ∷ []) = ap linesOf (sym (append-nil (take (end + 1) input))) ∙ one [] in
+    record {
+      whole = λ more. one more ∙ sym (append-assoc (linesOf a) (line ∷ []) (linesOf more)) ∙ ap (λ (x : List (List ℕ)). x ++ linesOf more) (sym now);
+      count = omega (arith, c .count, ap length now ∙ length-append (linesOf a) (line ∷ []));
+    }
 
 -- ---- what is done goes before what the rest gives
 

@@ -14,7 +14,7 @@ use Rattle.rules.specs.Replay.{Replay, LineCall, LineDone, callOf, lineDone, li
 use Rattle.printing.specs.Room.{line-most}
 use Rattle.scanning.specs.Until.{other, Until}
 use Rattle.replay.specs.Ready.{ReadyState, Runs}
-use Rattle.replay.specs.LineLaws.{Went, went-none, went-line}
+use Rattle.replay.specs.LineLaws.{Cut, cut-none, cut-line, Went, went-none, went-line}
 
 -- the most that one line's output may take
 abbrev pub room : List ℕ → ℕ
@@ -56,6 +56,7 @@ pub record Doing (s₀ : Replay) (lines₀ : ℕ) (input out₀ : List ℕ) (s :
   pub fits : w ≤ length out
   pub kept : drop w out ≡ drop w out₀
   pub ready : ReadyState s
+  pub cut : Cut input at lines₀ lines
   pub moves : at ≡ 0 → w ≡ 0
   pub counted : lines ≤ lines₀ + at
 
@@ -72,6 +73,7 @@ doing-none {s₀} {lines₀} {input} {out₀} r =
       fits = omega arith;
       kept = refl;
       ready = r;
+      cut = cut-none input lines₀;
       moves = λ z. z;
       counted = omega arith;
     }
@@ -88,6 +90,14 @@ unfolding put
 drop-put d at t h =
     drop-at (take at d ++ t) (drop (at + length t) d) (at + length t) (length-append (take at d) t ∙ omega (arith, length-take-le at d (omega arith)))
 
+-- what stands behind what is written stays as it was
+pub kept-line : (out₀ : List ℕ) {n : ℕ} {line : List ℕ} {s : Replay} {out : List ℕ} {w : ℕ} {after : Replay} {out' : List ℕ} {w' : ℕ} → Lined n line s out w after out' w' → drop w out ≡ drop w out₀ → drop w' out' ≡ drop w' out₀
+kept-line out₀ {n} {line} {s} {out} {w} {after} {out'} {w'} l k =
+    let t : List ℕ = written n (doneLine line s) in
+    let tail : drop w' out' ≡ drop w' out = ap (drop w') (l .out-is) ∙ ap (λ (m : ℕ). drop m (put out w t)) (l .end-is) ∙ drop-put out w t (omega (arith, l .end-is, l .end-fits)) ∙ ap (λ (m : ℕ). drop m out) (sym (l .end-is)) in
+    let past : w + (w' - w) ≡ w' = omega (arith, l .end-is) in
+    tail ∙ ap (λ (m : ℕ). drop m out) (sym past) ∙ sym (drop-drop (w' - w) w out) ∙ ap (drop (w' - w)) k ∙ drop-drop (w' - w) w out₀ ∙ ap (λ (m : ℕ). drop m out₀) past
+
 -- one line more
 module _ {s₀ : Replay} {lines₀ : ℕ} {input out₀ : List ℕ} {s : Replay} {lines at w : ℕ} {out : List ℕ} (g : Doing s₀ lines₀ input out₀ s lines at w out) where
   pub doing-line : {end : ℕ} {after : Replay} {out' : List ℕ} {w' : ℕ} → Until 10 input at end → end < length input → Lined (lines + 1) (part input at (end - at)) s out w after out' w' → Doing s₀ lines₀ input out₀ after (lines + 1) (end + 1) w' out'
@@ -96,14 +106,13 @@ module _ {s₀ : Replay} {lines₀ : ℕ} {input out₀ : List ℕ} {s : Replay}
       let t : List ℕ = written (lines + 1) (doneLine line s) in
       let fits : w + length t ≤ length out = omega (arith, l .end-is, l .end-fits) in
       let text : take w' out' ≡ take w out ++ t = ap (take w') (l .out-is) ∙ ap (λ (k : ℕ). take k (put out w t)) (l .end-is) ∙ take-put out w t fits in
-      let tail : drop w' out' ≡ drop w' out = ap (drop w') (l .out-is) ∙ ap (λ (k : ℕ). drop k (put out w t)) (l .end-is) ∙ drop-put out w t fits ∙ ap (λ (k : ℕ). drop k out) (sym (l .end-is)) in
-      let past : w + (w' - w) ≡ w' = omega (arith, l .end-is) in
       record {
         went = rw (text, l .after-is) (went-line (g .went) u h);
         inside = omega arith;
         fits = omega (arith, ap length (l .out-is) ∙ length-put out w t fits);
-        kept = tail ∙ ap (λ (k : ℕ). drop k out) (sym past) ∙ sym (drop-drop (w' - w) w out) ∙ ap (drop (w' - w)) (g .kept) ∙ drop-drop (w' - w) w out₀ ∙ ap (λ (k : ℕ). drop k out₀) past;
+        kept = kept-line out₀ l (g .kept);
         ready = l .ready;
+        cut = cut-line (g .cut) (g .inside) u h;
         moves = λ z. absurd (omega arith);
         counted = omega (arith, g .counted, u .after);
       }

@@ -6,7 +6,7 @@ use Prim.Native.Nat.{ℕ, _+_, _-_, _≤_, _<_}
 use native.Mathlib.Omega.{arith}
 use lib.Dec.{eqb, leb}
 use lib.ListN.{length, take, drop, length-append, length-drop, take-append-drop, drop-of-length-le}
-use lib.Seq.{take-all, take-at, length-take-le}
+use lib.Seq.{take-length, drop-at, drop-drop, take-all, take-at, length-take-le}
 use borrow.Author.Tests.{ne-eqb, lt-leb, leb-true, leb-false}
 use Rattle.rules.specs.Soundness.{every}
 use Rattle.rules.specs.Layout.{part, put}
@@ -15,7 +15,7 @@ use Rattle.rules.specs.Replay.{linesFrom, linesOf, LineCall, unreadable, callOf
 use Rattle.scanning.specs.Until.{other}
 use Rattle.replay.specs.Front.{state}
 use Rattle.replay.specs.LineLaws.{lines-plain, lines-cut, lines-open, before}
-use Rattle.replay.specs.Progress.{room, Done, Lined, written, doneLine, take-put}
+use Rattle.replay.specs.Progress.{room, Done, Lined, written, doneLine, take-put, kept-line}
 
 -- ---- a line that has not ended
 
@@ -86,6 +86,10 @@ held-ends rest e h = lines-cut rest [] e ∙ ap (λ (c : Bool). cond c [] (rest 
 
 -- ---- parts of lists
 
+-- a list from b on
+pub rest-all : (l : List ℕ) (b : ℕ) → part l b (length l - b) ≡ drop b l
+rest-all l b = take-all (length l - b) (drop b l) (omega (arith, length-drop b l))
+
 -- a list, and the first w of another, in front of others
 take-front : (a y c : List ℕ) (n w : ℕ) → length a ≡ n → w ≤ length y → take (n + w) (a ++ (y ++ c)) ≡ a ++ take w y
 take-front a y c n w e h =
@@ -97,9 +101,12 @@ take-front a y c n w e h =
 -- ---- lines to the end of the input
 
 -- how far an input is done: `w` bytes are written, and what the rest of the input gives follows them
-pub record Behind (input : List ℕ) (s₀ s : Replay) (lines at w : ℕ) (out : List ℕ) : Type 0 where
+pub record Behind (input out₀ : List ℕ) (s₀ s : Replay) (lines at w : ℕ) (out : List ℕ) : Type 0 where
   pub goes : linesDone 1 (linesOf input) s₀ ≡ before (take w out) (linesDone (lines + 1) (linesOf (drop at input)) s)
+  pub inside : at ≤ length input
+  pub numbered : length (linesOf (take at input)) ≡ lines
   pub fits : w ≤ length out
+  pub kept : drop w out ≡ drop w out₀
   pub ends : w + room (s .pool) ≤ length out → at ≡ length input
 
 module _ {input : List ℕ} {s₀ s : Replay} {lines at w : ℕ} {out₀ out : List ℕ} (d : Done s₀ 0 input out₀ s lines at w out) where
@@ -110,19 +117,20 @@ module _ {input : List ℕ} {s₀ s : Replay} {lines at w : ℕ} {out₀ out : L
       ∙ ap (λ (x : List ℕ). before (take w out) (linesDone (lines + 1) (linesOf x) s)) (append-nil (drop at input))
 
   -- the input is done
-  pub behind-done : at ≡ length input → Behind input s₀ s lines at w out
-  behind-done e = record { goes = run-goes; fits = d .doing .fits; ends = λ r. e }
+  pub behind-done : at ≡ length input → Behind input out₀ s₀ s lines at w out
+  behind-done e = record { goes = run-goes; inside = d .doing .inside; numbered = omega (arith, d .doing .cut .count); fits = d .doing .fits; kept = d .doing .kept; ends = λ r. e }
 
   -- no room is left
-  pub behind-full : length out < w + room (s .pool) → Behind input s₀ s lines at w out
-  behind-full f = record { goes = run-goes; fits = d .doing .fits; ends = λ r. absurd (omega arith) }
+  pub behind-full : length out < w + room (s .pool) → Behind input out₀ s₀ s lines at w out
+  behind-full f =
+      record { goes = run-goes; inside = d .doing .inside; numbered = omega (arith, d .doing .cut .count); fits = d .doing .fits; kept = d .doing .kept; ends = λ r. absurd (omega arith) }
 
   -- the rest is one line, which has no end
-  pub behind-last : {n : ℕ} {after : Replay} {out' : List ℕ} {w' : ℕ} → n ≡ lines + 1 → at < length input → w + room (s .pool) ≤ length out → Lined n (part input at (length input - at)) s out w after out' w' → Behind input s₀ after n (length input) w' out'
+  pub behind-last : {n : ℕ} {after : Replay} {out' : List ℕ} {w' : ℕ} → n ≡ lines + 1 → at < length input → w + room (s .pool) ≤ length out → Lined n (part input at (length input - at)) s out w after out' w' → Behind input out₀ s₀ after n (length input) w' out'
   unfolding linesDone linesOf linesFrom
   behind-last {n} {after} {out'} {w'} e i r l =
       let rest : List ℕ = drop at input in
-      let line : part input at (length input - at) ≡ rest = take-all (length input - at) rest (omega (arith, length-drop at input)) in
+      let line : part input at (length input - at) ≡ rest = rest-all input at in
       let one : linesOf rest ≡ rest ∷ [] = lines-open rest (d .stops r) ∙ ap (λ (c : Bool). cond c [] (rest ∷ [])) (ne-eqb (length rest) 0 (λ q. absurd (omega (arith, q, length-drop at input)))) in
       let t : List ℕ = written n (doneLine rest s) in
       let o : out' ≡ put out w t = l .out-is ∙ ap (λ (x : List ℕ). put out w (written n (doneLine x s))) line in
@@ -139,40 +147,65 @@ module _ {input : List ℕ} {s₀ s : Replay} {lines at w : ℕ} {out₀ out : L
             ∙ ap (λ (x : List ℕ). record { output = x ++ []; left = doneLine rest s .after }) (sym text)
             ∙ ap (λ (x : Replay). record { output = take w' out' ++ []; left = x }) (sym a)
             ∙ ap (λ (x : List ℕ). before (take w' out') (linesDone (n + 1) (linesOf x) after)) (sym (drop-of-length-le input {i = length input} (omega arith)));
+        inside = omega arith;
+        numbered =
+            ap (λ (x : List ℕ). length (linesOf x)) (take-length input ∙ sym (take-append-drop at input))
+            ∙ ap length (d .doing .cut .whole rest)
+            ∙ length-append (linesOf (take at input)) (linesOf rest)
+            ∙ omega (arith, ap length one, d .doing .cut .count, e);
         fits = omega (arith, p, f, ap length o ∙ length-put out w t f);
+        kept = kept-line out₀ l (d .doing .kept);
         ends = λ q. refl;
       }
 
 -- ---- the whole output
 
 -- how far an input is done: `w` bytes of the output are written, and what the rest of the input gives follows them
-pub record Replayed (input dir pool : List ℕ) (s : Replay) (lines at w : ℕ) (out : List ℕ) : Type 0 where
+pub record Replayed (input dir pool out₀ : List ℕ) (s : Replay) (lines at w : ℕ) (out : List ℕ) : Type 0 where
   pub goes : replayOf input dir pool ≡ before (take w out) (linesDone (lines + 1) (linesOf (drop at input)) s)
+  pub inside : at ≤ length input
+  pub numbered : length (linesOf (take at input)) ≡ lines
+  pub fits : w ≤ length out
+  pub kept : drop w out ≡ drop w out₀
   pub ends : w + room (s .pool) ≤ length out → at ≡ length input
 
 -- done to its end: the output is this, and so is the memory
-pub replayed-whole : {input dir pool : List ℕ} {s : Replay} {lines at w : ℕ} {out : List ℕ} → Replayed input dir pool s lines at w out → at ≡ length input → replayOf input dir pool ≡ record { output = take w out; left = s }
+pub replayed-whole : {input dir pool out₀ : List ℕ} {s : Replay} {lines at w : ℕ} {out : List ℕ} → Replayed input dir pool out₀ s lines at w out → at ≡ length input → replayOf input dir pool ≡ record { output = take w out; left = s }
 unfolding linesDone linesOf linesFrom
-replayed-whole {input} {dir} {pool} {s} {lines} {at} {w} {out} r e =
+replayed-whole {input} {dir} {pool} {out₀} {s} {lines} {at} {w} {out} r e =
     r .goes
     ∙ ap (λ (l : List ℕ). before (take w out) (linesDone (lines + 1) (linesOf l) s)) (drop-of-length-le input {i = at} (omega (arith, e)))
     ∙ ap (λ (t : List ℕ). record { output = t; left = s }) (append-nil (take w out))
 
 -- the header, and behind it the lines
-pub headed : (input dir pool out : List ℕ) {out₁ ys : List ℕ} {b : ℕ} {s : Replay} {lines at w : ℕ} → out₁ ≡ put out 0 header → b ≡ length header → b ≤ length out → Behind input (state 0 dir pool) s lines at w ys → length ys ≡ length out₁ - b → Replayed input dir pool s lines at (b + w) (take b out₁ ++ (ys ++ drop (length out₁ - b) (drop b out₁)))
+pub headed : (input dir pool out : List ℕ) {out₁ ys₀ ys : List ℕ} {b : ℕ} {s : Replay} {lines at w : ℕ} → out₁ ≡ put out 0 header → b ≡ length header → b ≤ length out → Behind input ys₀ (state 0 dir pool) s lines at w ys → length ys ≡ length out₁ - b → ys₀ ≡ drop b out₁ → Replayed input dir pool out s lines at (b + w) (take b out₁ ++ (ys ++ drop (length out₁ - b) (drop b out₁)))
 unfolding put replayOf
-headed input dir pool out {out₁} {ys} {b} {s} {lines} {at} {w} h l f g n =
+headed input dir pool out {out₁} {ys₀} {ys} {b} {s} {lines} {at} {w} h l f g n y =
     let tail : List ℕ = drop (length out₁ - b) (drop b out₁) in
     let rest : Written = linesDone (lines + 1) (linesOf (drop at input)) s in
     let front : take b out₁ ≡ header = ap (take b) h ∙ take-at header (drop (0 + length header) out) b (sym l) in
+    let none : tail ≡ [] = drop-of-length-le (drop b out₁) {i = length out₁ - b} (omega (arith, length-drop b out₁)) in
     let text : take (b + w) (take b out₁ ++ (ys ++ tail)) ≡ header ++ take w ys =
     ap (λ (x : List ℕ). take (b + w) (x ++ (ys ++ tail))) front ∙ take-front header ys tail b w (sym l) (g .fits) in
     let size : length (take b out₁ ++ (ys ++ tail)) ≡ b + length ys =
-    length-append (take b out₁) (ys ++ tail) ∙ omega (arith, ap length front, l, length-append ys tail, length-drop (length out₁ - b) (drop b out₁), length-drop b out₁) in
+    length-append (take b out₁) (ys ++ tail) ∙ omega (arith, ap length front, l, length-append ys tail, ap length none) in
+    let same : 0 + length header ≡ b = omega (arith, l) in
+    let later : drop b out₁ ≡ drop b out = ap (drop b) h ∙ drop-at header (drop (0 + length header) out) b (sym l) ∙ ap (λ (m : ℕ). drop m out) same in
+    let behind : drop b (take b out₁ ++ (ys ++ tail)) ≡ ys =
+    drop-at (take b out₁) (ys ++ tail) b (omega (arith, ap length front, l)) ∙ ap (λ (x : List ℕ). ys ++ x) none ∙ append-nil ys in
     record {
       goes =
           ap (before header) (g .goes)
           ∙ ap (λ (t : List ℕ). record { output = t; left = rest .left }) (sym (append-assoc header (take w ys) (rest .output)))
           ∙ ap (λ (t : List ℕ). before t rest) (sym text);
+      inside = g .inside;
+      numbered = g .numbered;
+      fits = omega (arith, size, g .fits);
+      kept =
+          sym (drop-drop w b (take b out₁ ++ (ys ++ tail)))
+          ∙ ap (drop w) behind
+          ∙ g .kept
+          ∙ ap (drop w) (y ∙ later)
+          ∙ drop-drop w b out;
       ends = λ r. g .ends (omega (arith, size));
     }

@@ -267,7 +267,7 @@ pub fn hold(kept: &mut [u8], rest: &[u8]) -> usize
 // Does all lines of an input, also a last one that has no end, as long as the output has room.
 fn run_all(dir: &mut [u64], pool: &mut [u8], input: &[u8], out: &mut [u8]) -> Progress
     requires { ⌜ room (now pool) ≤ length (now out) ⌝ }
-    ensures { λ r. ⌜ Behind (now (input .entry)) (state 0 (now (dir .entry)) (now (pool .entry))) (state (r .cells) (now (dir .exit)) (now (pool .exit))) (r .lines) (r .consumed) (r .written) (now (out .exit)) ⌝ }
+    ensures { λ r. ⌜ Behind (now (input .entry)) (now (out .entry)) (state 0 (now (dir .entry)) (now (pool .entry))) (state (r .cells) (now (dir .exit)) (now (pool .exit))) (r .lines) (r .consumed) (r .written) (now (out .exit)) ⌝ }
 {
     let p = run(dir, pool, 0, 0, input, out);
     let done = p.consumed;
@@ -281,7 +281,7 @@ fn run_all(dir: &mut [u64], pool: &mut [u8], input: &[u8], out: &mut [u8]) -> Pr
     let last = do_line(dir, pool, p.cells, n, &input[done..], out, p.written);
     Progress {
         cells: last.cells,
-        lines: n,
+        lines: n, // with the last one
         consumed: input.len(),
         written: last.end,
     }
@@ -290,7 +290,7 @@ fn run_all(dir: &mut [u64], pool: &mut [u8], input: &[u8], out: &mut [u8]) -> Pr
 // Replays a whole input from a memory that no `fresh` has touched: the header, and a line of output for each line. It says how far it came, which is to the end where the output has room.
 pub fn replay(dir: &mut [u64], pool: &mut [u8], input: &[u8], out: &mut [u8]) -> Progress
     requires { ⌜ 160 + room (now pool) ≤ length (now out) ⌝ }
-    ensures { λ r. ⌜ Replayed (now (input .entry)) (now (dir .entry)) (now (pool .entry)) (state (r .cells) (now (dir .exit)) (now (pool .exit))) (r .lines) (r .consumed) (r .written) (now (out .exit)) ⌝ }
+    ensures { λ r. ⌜ Replayed (now (input .entry)) (now (dir .entry)) (now (pool .entry)) (now (out .entry)) (state (r .cells) (now (dir .exit)) (now (pool .exit))) (r .lines) (r .consumed) (r .written) (now (out .exit)) ⌝ }
 {
     let begun = printing::write_header(out);
     let p = run_all(dir, pool, input, &mut out[begun..]);

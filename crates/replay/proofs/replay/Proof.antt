@@ -1,5 +1,5 @@
 -- `replay::replay` meets its contract.
-use Rattle.replay.specs.Whole.{headed}
+use Rattle.replay.specs.Whole.{headed, rest-all}
 use native.Mathlib.Omega.{arith}
 use borrow.Author.Needs.{needs}
 use Rattle.replay.proofs.replay.Statement.{statement}
@@ -33,7 +33,7 @@ same-length-3 : tie.Need-same-length-3
 same-length-3 c = search needs
 
 returns : tie.Need-returns
-returns c = headed _ _ _ _ (c .before .before .before .before .before .before .before .before .before .before .before .before .before .write-header .ensures .0) (c .before .before .before .before .before .before .before .before .before .before .before .before .before .write-header .ensures .1) (omega (arith, c .before .before .before .before .before .before .before .before .before .before .before .before .before .before .before .before .before .before .before .pre, c .before .before .before .before .before .before .before .before .before .before .before .before .before .write-header .ensures .1)) (c .before .before .before .before .before .before .before .run-all .ensures) (omega (arith, c .before .before .before .before .before .before .before .run-all .kept, c .before .before .before .before .before .before .before .before .before .before .before .before .before .write-header .kept, c .before .before .before .before .before .before .before .before .before .before .before .before .before .write-header .ensures .1))
+returns c = headed _ _ _ _ (c .before .before .before .before .before .before .before .before .before .before .before .before .before .write-header .ensures .0) (c .before .before .before .before .before .before .before .before .before .before .before .before .before .write-header .ensures .1) (omega (arith, c .before .before .before .before .before .before .before .before .before .before .before .before .before .before .before .before .before .before .before .pre, c .before .before .before .before .before .before .before .before .before .before .before .before .before .write-header .ensures .1)) (c .before .before .before .before .before .before .before .run-all .ensures) (omega (arith, c .before .before .before .before .before .before .before .run-all .kept, c .before .before .before .before .before .before .before .before .before .before .before .before .before .write-header .kept, c .before .before .before .before .before .before .before .before .before .before .before .before .before .write-header .ensures .1)) (rest-all (c .before .before .before .before .before .before .before .before .before .before .before .before .before .write-header .last .0) (c .before .before .before .before .before .before .before .before .before .before .before .before .before .write-header .result))
 
 pub replay-spec : {M : Type 1} → statement M
 replay-spec =
