@@ -5,13 +5,8 @@ use Prim.Native.Nat.{ℕ, suc, _+_, _*_, _/_, _%_, _≤_, _<_}
 use native.Mathlib.Omega.{arith}
 use lib.ListN.{length, drop, getD, length-drop, drop-of-length-le}
 use lib.Seq.{drop-cons}
-
--- four bytes as a number
-abbrev word : ℕ → ℕ → ℕ → ℕ → ℕ
-word a b c d = a + 256 * (b + 256 * (c + 256 * d))
-
-abbrev pub wordAt : List ℕ → ℕ → ℕ
-wordAt key i = word (getD key i 0) (getD key (i + 1) 0) (getD key (i + 2) 0) (getD key (i + 3) 0)
+use Rattle.rules.specs.Layout.{part, valueOf}
+use Rattle.laws.specs.NumberLaws.{part-four}
 
 -- a hash of a number more
 abbrev with : ℕ → ℕ → ℕ
@@ -23,7 +18,7 @@ hashFrom h [] = h
 hashFrom h (a ∷ []) = with h a
 hashFrom h (a ∷ b ∷ []) = with (with h a) b
 hashFrom h (a ∷ b ∷ c ∷ []) = with (with (with h a) b) c
-hashFrom h (a ∷ b ∷ c ∷ d ∷ l) = hashFrom (with h (word a b c d)) l
+hashFrom h (a ∷ b ∷ c ∷ d ∷ l) = hashFrom (with h (valueOf (a ∷ b ∷ c ∷ d ∷ []))) l
 
 unfoldable pub bucketOf : List ℕ → ℕ
 bucketOf key = 2654435761 * hashFrom 0 key / 2097152 % 2048
@@ -40,7 +35,7 @@ drop-one : (key : List ℕ) (i j : ℕ) → i < length key → j ≡ i + 1 → d
 drop-one key i j l e = let s : suc i ≡ j = omega arith in drop-cons key i 0 l ∙ ap (λ (k : ℕ). getD key i 0 ∷ drop k key) s
 
 -- four bytes more
-pub hashed-word : {key : List ℕ} {i h w : ℕ} → Hashed key i h → i + 4 ≤ length key → w ≡ wordAt key i → Hashed key (i + 4) ((31 * h + w) % 4294967296)
+pub hashed-word : {key : List ℕ} {i h w : ℕ} → Hashed key i h → i + 4 ≤ length key → w ≡ valueOf (part key i 4) → Hashed key (i + 4) ((31 * h + w) % 4294967296)
 unfolding hashFrom
 hashed-word {key} {i} {h} {w} d l e =
     let four : drop i key ≡ getD key i 0 ∷ getD key (i + 1) 0 ∷ getD key (i + 2) 0 ∷ getD key (i + 3) 0 ∷ drop (i + 4) key =
@@ -50,7 +45,7 @@ hashed-word {key} {i} {h} {w} d l e =
     ∙ ap (λ (r : List ℕ). getD key i 0 ∷ getD key (i + 1) 0 ∷ getD key (i + 2) 0 ∷ r) (drop-one key (i + 3) (i + 4) (omega arith) (omega arith)) in
     record {
       small = omega arith;
-      rest = d .rest ∙ ap (hashFrom h) four ∙ ap (λ (x : ℕ). hashFrom (with h x) (drop (i + 4) key)) (sym e);
+      rest = d .rest ∙ ap (hashFrom h) four ∙ ap (λ (x : ℕ). hashFrom (with h x) (drop (i + 4) key)) (sym (e ∙ ap valueOf (part-four key i l)));
     }
 
 -- one byte more, of the last three

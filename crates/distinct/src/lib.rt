@@ -5,7 +5,7 @@ ghost use Prim.Native.Nat.{_+_, _≤_, _<_};
 ghost use lib.ListN.{length, replicate};
 ghost use Rattle.rules.specs.Layout.{entriesOf};
 ghost use Rattle.rules.specs.Soundness.{sound, keysDiffer};
-ghost use Rattle.distinct.specs.Hash.{wordAt, bucketOf};
+ghost use Rattle.distinct.specs.Hash.{bucketOf};
 ghost use Rattle.distinct.specs.Chains.{linkOf, keyAt, bucketAt, under, Link, Linked};
 
 // A byte as a wider number.
@@ -22,16 +22,6 @@ fn link(x: u16) -> usize
     std::num::wrapping_sub_u16(x, 1) as usize
 }
 
-// Four bytes as a number.
-fn word(key: &[u8], i: usize) -> u64
-    requires { ⌜ i + 4 ≤ length (now key) ⌝ }
-    ensures { λ r. ⌜ (r ≡ wordAt (now (key .entry)) i) × (r < 4294967296) ⌝ }
-{
-    let w2 = wide(key[i + 2]) + 256 * wide(key[i + 3]);
-    let w1 = wide(key[i + 1]) + 256 * w2;
-    wide(key[i]) + 256 * w1
-}
-
 // The bucket of a key: one of 2,048, by a hash of all its bytes, four at a time.
 fn bucket(key: &[u8]) -> usize
     requires { ⌜ length (now key) ≤ 65535 ⌝ }
@@ -40,7 +30,7 @@ fn bucket(key: &[u8]) -> usize
     let mut h: u64 = 0;
     let mut i = 0;
     while i + 4 <= key.len() {
-        h = (31 * h + word(key, i)) % 4294967296;
+        h = (31 * h + words::load4(key, i)) % 4294967296;
         i += 4;
     }
     while i < key.len() {

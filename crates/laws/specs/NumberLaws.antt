@@ -1,20 +1,23 @@
 -- Numbers as bytes: what is stored is read back. And how many cells so many bytes need.
 use mathlib.Core.Path.{_≡_, refl, sym, ap, _∙_}
-use mathlib.Core.Bool.{true}
-use mathlib.Core.List.{List, [], _∷_}
+use mathlib.Core.Bool.{Bool, true, _&&_}
+use mathlib.Core.List.{List, [], _∷_, _++_}
 use Prim.Native.Nat.{ℕ, zero, suc, _+_, _*_, _/_, _^_, _≤_, _<_}
 use native.Mathlib.Omega.{arith}
+use native.Mathlib.Decide.{ℕ-discrete}
 use native.Mathlib.Nat.{pow-succ', add-zero}
 use lib.ListN.{length, take, drop, getD, length-drop}
-use lib.Seq.{getD-drop}
+use lib.Dec.{eqb}
+use lib.Seq.{getD-drop, take-add, drop-drop}
 use lib.IntN.{ℤ, pos, negsuc}
 use lib.Signed.{mag}
-use borrow.Author.Tests.{ltb-true, lt-ltb}
+use borrow.Author.Tests.{ltb-true, lt-ltb, eq-eqb, ne-eqb}
 use mir.Syntax.{w64}
 use mir.Val.{toZ, ofZ, SFits}
 use mir.Facts.{toZ-ofZ}
 use Rattle.rules.specs.declared.Entry.{Entry}
 use Rattle.rules.specs.Layout.{need, put, part, valueOffset, bytesOf, valueOf, numberBytes, numberAt}
+use Rattle.rules.specs.LookUp.{same}
 use Rattle.rules.specs.Calls.{booleanByte, inRange}
 use Rattle.laws.specs.Bytes.{part-put}
 
@@ -72,20 +75,38 @@ number-put d e z h f =
     ∙ ap (λ (l : List ℕ). toZ w64 (valueOf l)) (part-put d (valueOffset e) (numberBytes z) h)
     ∙ number-back z f
 
-first-eight : (l : List ℕ) → 8 ≤ length l → take 8 l ≡ getD l 0 0 ∷ getD l 1 0 ∷ getD l 2 0 ∷ getD l 3 0 ∷ getD l 4 0 ∷ getD l 5 0 ∷ getD l 6 0 ∷ getD l 7 0 ∷ []
-first-eight [] h = absurd (omega arith)
-first-eight (a ∷ []) h = absurd (omega arith)
-first-eight (a ∷ b ∷ []) h = absurd (omega arith)
-first-eight (a ∷ b ∷ c ∷ []) h = absurd (omega arith)
-first-eight (a ∷ b ∷ c ∷ d ∷ []) h = absurd (omega arith)
-first-eight (a ∷ b ∷ c ∷ d ∷ e ∷ []) h = absurd (omega arith)
-first-eight (a ∷ b ∷ c ∷ d ∷ e ∷ f ∷ []) h = absurd (omega arith)
-first-eight (a ∷ b ∷ c ∷ d ∷ e ∷ f ∷ g ∷ []) h = absurd (omega arith)
-first-eight (a ∷ b ∷ c ∷ d ∷ e ∷ f ∷ g ∷ i ∷ l) h = refl
-
 -- the number at an index, byte by byte
-pub value-at : (d : List ℕ) (p : ℕ) → p + 8 ≤ length d → valueOf (part d p 8) ≡ getD d p 0 + 256 * (getD d (p + 1) 0 + 256 * (getD d (p + 2) 0 + 256 * (getD d (p + 3) 0 + 256 * (getD d (p + 4) 0 + 256 * (getD d (p + 5) 0 + 256 * (getD d (p + 6) 0 + 256 * (getD d (p + 7) 0 + 256 * 0)))))))
-value-at d p h = ap valueOf (first-eight (drop p d) (omega (arith, length-drop p d))) ∙ simp (getD-drop, add-zero)
+first-four : (l : List ℕ) → 4 ≤ length l → take 4 l ≡ getD l 0 0 ∷ getD l 1 0 ∷ getD l 2 0 ∷ getD l 3 0 ∷ []
+first-four [] h = absurd (omega arith)
+first-four (a ∷ []) h = absurd (omega arith)
+first-four (a ∷ b ∷ []) h = absurd (omega arith)
+first-four (a ∷ b ∷ c ∷ []) h = absurd (omega arith)
+first-four (a ∷ b ∷ c ∷ d ∷ l) h = refl
+
+pub part-four : (d : List ℕ) (p : ℕ) → p + 4 ≤ length d → part d p 4 ≡ getD d p 0 ∷ getD d (p + 1) 0 ∷ getD d (p + 2) 0 ∷ getD d (p + 3) 0 ∷ []
+part-four d p h = first-four (drop p d) (omega (arith, length-drop p d)) ∙ simp (getD-drop, add-zero)
+
+-- the same of eight bytes, by their halves
+pub value-halves : (d : List ℕ) (p : ℕ) → p + 8 ≤ length d → valueOf (part d p 8) ≡ valueOf (part d p 4) + 4294967296 * valueOf (part d (p + 4) 4)
+value-halves d p h =
+    ap valueOf (take-add 4 4 (drop p d) ∙ ap (λ (l : List ℕ). take 4 (drop p d) ++ take 4 l) (drop-drop 4 p d))
+    ∙ ap (λ (l : List ℕ). valueOf (l ++ part d (p + 4) 4)) (part-four d p (omega arith))
+    ∙ let e : valueOf (part d p 4) ≡ valueOf (getD d p 0 ∷ getD d (p + 1) 0 ∷ getD d (p + 2) 0 ∷ getD d (p + 3) 0 ∷ []) = ap valueOf (part-four d p (omega arith)) in omega arith
+
+-- two lists of as many bytes are the same if their numbers are
+value-one : (x y v w : ℕ) → x < 256 → y < 256 → Dec (x ≡ y) → Dec (v ≡ w) → eqb (x + 256 * v) (y + 256 * w) ≡ (eqb x y && eqb v w)
+value-one x y v w h k (yes p) (yes q) = rw (eq-eqb (x + 256 * v) (y + 256 * w) (omega arith), eq-eqb x y p, eq-eqb v w q)
+value-one x y v w h k (yes p) (no q) = rw (ne-eqb (x + 256 * v) (y + 256 * w) (λ e. q (omega arith)), eq-eqb x y p, ne-eqb v w q)
+value-one x y v w h k (no p) q = rw (ne-eqb (x + 256 * v) (y + 256 * w) (λ e. p (omega arith)), ne-eqb x y p)
+
+pub value-same : (a b : List ℕ) → length a ≡ length b → ((i : ℕ) → getD a i 0 < 256) → ((i : ℕ) → getD b i 0 < 256) → eqb (valueOf a) (valueOf b) ≡ same a b
+unfolding same
+value-same [] [] e f g = refl
+value-same [] (y ∷ b) e f g = absurd (omega arith)
+value-same (x ∷ a) [] e f g = absurd (omega arith)
+value-same (x ∷ a) (y ∷ b) e f g =
+    value-one x y (valueOf a) (valueOf b) (f 0) (g 0) (ℕ-discrete x y) (ℕ-discrete (valueOf a) (valueOf b))
+    ∙ ap (λ (t : Bool). eqb x y && t) (value-same a b (omega arith) (λ i. f (suc i)) (λ i. g (suc i)))
 
 -- ---- a boolean's byte, by the number's bits
 

@@ -5,7 +5,7 @@ ghost use lib.ListN.{length};
 ghost use lib.IntN.{_+ℤ_};
 ghost use mir.Syntax.{w64};
 ghost use mir.Val.{toZ, ofZ};
-ghost use Rattle.rules.specs.Layout.{need, part, bytesOf, valueOf, numberBytes, numberAt, keyOffset, valueOffset};
+ghost use Rattle.rules.specs.Layout.{need, numberBytes, numberAt, keyOffset, valueOffset};
 ghost use Rattle.rules.specs.LookUp.{keyIs};
 ghost use Rattle.rules.specs.Calls.{booleanByte};
 ghost use Rattle.values.specs.Sum.{sumOf};
@@ -73,35 +73,13 @@ pub fn number_bytes(x: i64) -> [u8; 8]
     ]
 }
 
-// A byte as a wider number.
-fn wide(x: u8) -> u64
-    ensures { λ r. ⌜ (r ≡ x) × (r < 256) ⌝ }
-{
-    x as u64
-}
-
-// The number whose eight bytes stand at `at`, lowest first, as bits.
-fn load(pool: &[u8], at: usize) -> u64
-    requires { ⌜ at + 8 ≤ length (now pool) ⌝ }
-    ensures { λ r. ⌜ r ≡ valueOf (part (now (pool .entry)) at 8) ⌝ }
-{
-    let v7 = wide(pool[at + 7]);
-    let v6 = wide(pool[at + 6]) + 256 * v7;
-    let v5 = wide(pool[at + 5]) + 256 * v6;
-    let v4 = wide(pool[at + 4]) + 256 * v5;
-    let v3 = wide(pool[at + 3]) + 256 * v4;
-    let v2 = wide(pool[at + 2]) + 256 * v3;
-    let v1 = wide(pool[at + 1]) + 256 * v2;
-    wide(pool[at]) + 256 * v1
-}
-
 // The number that an entry of kind 3 holds.
 pub fn number_at(pool: &[u8], e: Entry) -> i64
     requires { ⌜ valueOffset e + 8 ≤ length (now pool) ⌝ }
     ensures { λ r. ⌜ r ≡ numberAt (now (pool .entry)) e ⌝ }
 {
     let at = 32 * e.start as usize + e.klen as usize;
-    from_bits(load(pool, at))
+    from_bits(words::load8(pool, at))
 }
 
 // The sum, or OutOfRange where 64 bits do not hold it.

@@ -1,8 +1,8 @@
-// Writes and comparisons within slices of words and bytes. Each write leaves `put d at s`: d with s over it from index `at` on.
+// Writes, reads and comparisons within slices of words and bytes. Each write leaves `put d at s`: d with s over it from index `at` on.
 ghost use mathlib.Core.Path.{_≡_};
-ghost use Prim.Native.Nat.{_+_, _≤_};
+ghost use Prim.Native.Nat.{_+_, _≤_, _<_};
 ghost use lib.ListN.{length, take, drop, replicate};
-ghost use Rattle.rules.specs.Layout.{put};
+ghost use Rattle.rules.specs.Layout.{put, part, valueOf};
 ghost use Rattle.rules.specs.LookUp.{same};
 ghost use Rattle.words.specs.Gap.{cut};
 
@@ -64,19 +64,52 @@ pub fn close_gap(d: &mut [u64], at: usize, n: usize, count: usize)
     clear(d, at + count, n);
 }
 
-// The two hold the same bytes.
+// A byte as a wider number.
+fn wide(x: u8) -> u64
+    ensures { λ r. ⌜ (r ≡ x) × (r < 256) ⌝ }
+{
+    x as u64
+}
+
+// The number whose four bytes stand at `at`, lowest first.
+pub fn load4(d: &[u8], at: usize) -> u64
+    requires { ⌜ at + 4 ≤ length (now d) ⌝ }
+    ensures { λ r. ⌜ (r ≡ valueOf (part (now (d .entry)) at 4)) × (r < 4294967296) ⌝ }
+{
+    let v3 = wide(d[at + 3]);
+    let v2 = wide(d[at + 2]) + 256 * v3;
+    let v1 = wide(d[at + 1]) + 256 * v2;
+    wide(d[at]) + 256 * v1
+}
+
+// The number whose eight bytes stand at `at`, lowest first. It is made of two halves, since the compiler sees that this is one load.
+pub fn load8(d: &[u8], at: usize) -> u64
+    requires { ⌜ at + 8 ≤ length (now d) ⌝ }
+    ensures { λ r. ⌜ r ≡ valueOf (part (now (d .entry)) at 8) ⌝ }
+{
+    let high = load4(d, at + 4);
+    load4(d, at) + 4294967296 * high
+}
+
+// The two hold the same bytes. From the end, eight at a time: keys that are alike mostly begin alike.
 pub fn equal(a: &[u8], b: &[u8]) -> bool
     ensures { λ r. ⌜ r ≡ same (now (a .entry)) (now (b .entry)) ⌝ }
 {
     if a.len() != b.len() {
         return false;
     }
-    let mut i = 0;
-    while i < a.len() {
-        if a[i] != b[i] {
+    let mut n = a.len();
+    while 8 <= n {
+        n -= 8;
+        if load8(a, n) != load8(b, n) {
             return false;
         }
-        i += 1;
+    }
+    while 0 < n {
+        n -= 1;
+        if a[n] != b[n] {
+            return false;
+        }
     }
     true
 }

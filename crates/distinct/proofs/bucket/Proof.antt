@@ -27,8 +27,8 @@ add-loop c = omega arith
 mul-h : tie.Need-mul-h Inv-loop μ-loop Inv-loop2 μ-loop2
 mul-h c = omega arith
 
-word-requires : tie.Need-word-requires Inv-loop μ-loop Inv-loop2 μ-loop2
-word-requires c κs = omega arith
+load4-requires : tie.Need-load4-requires Inv-loop μ-loop Inv-loop2 μ-loop2
+load4-requires c κs = omega arith
 
 add-h : tie.Need-add-h Inv-loop μ-loop Inv-loop2 μ-loop2
 add-h c = omega arith
@@ -40,7 +40,7 @@ loop-less : tie.Need-loop-less Inv-loop μ-loop Inv-loop2 μ-loop2
 loop-less c = omega arith
 
 loop-again : tie.Need-loop-again Inv-loop μ-loop Inv-loop2 μ-loop2
-loop-again c = (omega arith, hashed-word (c .before .before .loop .inv .1) (omega arith) (c .word .ensures .0))
+loop-again c = (omega arith, hashed-word (c .before .before .loop .inv .1) (omega arith) (c .load4 .ensures .0))
 
 loop2-holds : tie.Need-loop2-holds Inv-loop μ-loop Inv-loop2 μ-loop2
 loop2-holds c = (omega arith, omega arith, c .before .loop .inv .1)
@@ -83,7 +83,7 @@ bucket-spec =
     loop-holds
     add-loop
     mul-h
-    word-requires
+    load4-requires
     add-h
     add-i
     loop-less
