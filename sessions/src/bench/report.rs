@@ -113,7 +113,7 @@ clock, in nanoseconds a call. A ratio below 1 means that the library is faster. 
 make the call, and all that they answer and leave is compared. bytes_at is not timed: it only compares three numbers.
 
 A tight loop's time also depends on where the linker happens to put it. Between two builds the same row may move by up \
-to a third, the look-up and the search for a place most of all.
+to a third, on some processors threefold, the look-up and the search for a place most of all.
 
 The memories: plates of ten bytes with a weight (texts for show) in one cell each, none, half of the pool or all of \
 it, never expiring unless the row says so; front, middle and last are places in the use order. In a crowd the plates \
