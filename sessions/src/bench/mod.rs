@@ -1,4 +1,4 @@
-//! Times of the library's calls beside those of the second program.
+//! Times of the library's calls, and of replay's lines, beside those of the second program.
 //!
 //! | Module | Holds |
 //! |---|---|
@@ -6,10 +6,14 @@
 //! | `rows` | the calls |
 //! | `ready` | a call with its arguments ready, by either program |
 //! | `timing` | medians over batches that take turns |
-//! | `report`, `plot` | the table, docs/BENCHMARKS.md and the plot |
+//! | `lines` | the lines that replay is timed on, and their calls |
+//! | `replay` | the time of a line |
+//! | `report`, `plot` | the tables, docs/BENCHMARKS.md and the plot |
 
+pub mod lines;
 pub mod plot;
 pub mod ready;
+pub mod replay;
 pub mod report;
 pub mod rows;
 pub mod timing;

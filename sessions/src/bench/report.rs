@@ -1,7 +1,8 @@
-//! The times as a table on standard output and as docs/BENCHMARKS.md.
+//! The times as tables on standard output and as docs/BENCHMARKS.md.
 
 use std::fs;
 
+use crate::bench::replay::LineTimes;
 use crate::bench::rows::{Row, SIZES};
 use crate::bench::timing::Times;
 
@@ -25,7 +26,7 @@ fn shares(measured: &[Measured], one: &Measured) -> Option<(f64, f64)> {
     Some((100.0 * test.library / one.times.library, 100.0 * test.second / one.times.second))
 }
 
-/// The table, for standard output.
+/// The table of the calls, for standard output.
 pub fn print(measured: &[Measured]) {
     println!("{:>5}  {:6} {:36}{:>12}{:>12}{:>8}", "P", "memory", "call", "library ns", "second ns", "ratio");
     for one in measured {
@@ -41,6 +42,28 @@ pub fn print(measured: &[Measured]) {
     }
 }
 
+/// The table of replay, for standard output.
+pub fn print_replay(replay: &[LineTimes]) {
+    if replay.is_empty() {
+        return;
+    }
+    println!(
+        "{:>5}  {:>12}{:>14}{:>12}{:>8}{:>12}{:>8}",
+        "P", "replay ns", "lines/second", "second ns", "ratio", "calls ns", "ratio"
+    );
+    for one in replay {
+        let [program, rate, second, ratio, calls, cost] = replay_columns(one);
+        println!("{:>5}  {program:>12}{rate:>14}{second:>12}{ratio:>8}{calls:>12}{cost:>8}", one.cells);
+    }
+}
+
+/// The time of a line and lines a second; the second program's time and the ratio; the calls' time and the ratio.
+fn replay_columns(one: &LineTimes) -> [String; 6] {
+    let ratio = |to: f64| format!("{:.2}", one.program / to);
+    let rate = thousands((1e9 / one.program).round() as usize);
+    [number(one.program), rate, number(one.second), ratio(one.second), number(one.calls), ratio(one.calls)]
+}
+
 /// Three digits at least.
 fn number(nanoseconds: f64) -> String {
     if nanoseconds < 100.0 {
@@ -51,13 +74,14 @@ fn number(nanoseconds: f64) -> String {
 }
 
 /// The whole of docs/BENCHMARKS.md.
-pub fn markdown(measured: &[Measured]) -> String {
+pub fn markdown(measured: &[Measured], replay: &[LineTimes]) -> String {
     let mut text = format!("{}\nProcessor: {}.\n\n", HEAD, processor());
     text.push_str(&crowds(measured));
     text.push_str("![Ratios of the times](benchmarks.svg)\n\n## Summary\n\n");
     text.push_str(&summary(measured));
     text.push_str("\n## Where the library is slower\n\n");
     text.push_str(&slower(measured));
+    text.push_str(&replay_chapter(replay));
     for cells in SIZES {
         text.push_str(&format!("\n## P = {}\n\n", thousands(cells)));
         text.push_str("| memory | call | library | second | ratio | soundness, library | soundness, second |\n");
@@ -77,7 +101,8 @@ Each call of the proved library, through the C interface, beside the same call o
 
     cargo run --release --offline --bin bench
 
-in `sessions/`, which takes about one minute and a half; `--quick` prints a short run and writes nothing.
+in `sessions/`, which takes about two minutes and a quarter and needs the replay program (`rt check replay_main`); \
+`--quick` prints a short run and writes nothing.
 
 How it is measured: both programs run in the same process, built for release, pinned to no core. A batch is one call \
 on each of some copies of the same memory (as many as stay in the nearest cache, 1 at P = 1,024), which are restored \
@@ -88,7 +113,7 @@ clock, in nanoseconds a call. A ratio below 1 means that the library is faster. 
 make the call, and all that they answer and leave is compared. bytes_at is not timed: it only compares three numbers.
 
 A tight loop's time also depends on where the linker happens to put it. Between two builds the same row may move by up \
-to a third, the look-up and the search for a place most of all.
+to a third, on some processors threefold, the look-up and the search for a place most of all.
 
 The memories: plates of ten bytes with a weight (texts for show) in one cell each, none, half of the pool or all of \
 it, never expiring unless the row says so; front, middle and last are places in the use order. In a crowd the plates \
@@ -97,6 +122,47 @@ were last used in any order, so that two cells side by side become free late.
 Every call but make_fresh tests first whether the memory is sound, at a cost that grows with P. The row \"soundness \
 test alone\" is a get_stale with the clock 0, which is refused right behind that test; the last two columns give its \
 share of the call's time, by its time on plates with weights.
+";
+
+/// The chapter on replay.
+fn replay_chapter(replay: &[LineTimes]) -> String {
+    let mut text = String::from(REPLAY);
+    for one in replay {
+        text.push_str(&format!("| {} | {} |\n", thousands(one.cells), replay_columns(one).join(" | ")));
+    }
+    if let Some(one) = replay.first() {
+        text.push_str(&format!("\nThe input has {} lines: {REPLAY_INPUT}", thousands(one.lines)));
+    }
+    text
+}
+
+const REPLAY: &str = "
+## Replay lines
+
+The proved replay program reads lines, makes their calls and prints what they answer. It works on a memory that is \
+known to be sound, and so does not test soundness at each line, as each call through the C interface does. Beside it \
+stand the second program's replay of the same lines, and the same calls through the C interface, with their checks \
+and without any reading or printing; all in nanoseconds a line. The last ratio is what a line costs against its \
+checked call alone.
+
+| P | replay | lines a second | second | ratio | checked calls | ratio |
+|---:|---:|---:|---:|---:|---:|---:|
+";
+
+const REPLAY_INPUT: &str = "\
+`fresh`, sets until the pool is full, and then steps in a fixed pseudo-random order. Of 100 steps 70 get a plate that \
+is there, 10 get one that is not, 10 set one in place, 5 set a new one, which evicts the longest unused one in one \
+round, and 5 delete one and then set a new one in its cell. Each plate that is there is equally likely. Keys have ten \
+bytes, values are weights, and none expires.
+
+How it is measured: the proved program is a process of its own. It reads the lines from a file in the system's \
+temporary folder and writes to a pipe that the benchmark reads; its time is that from its start to its end, without \
+what it takes on an empty input. The second program's replay runs in the benchmark's process, from memory to memory, \
+and so do the calls, whose arguments are ready. The three take turns, sixteen times or more, between the turns of the \
+rows below; the times are medians over the quietest quarter. Before, all that they answer is compared, and the \
+program's output once more after each run. Calls and plates change from line to line, while a row below repeats one \
+call on one memory; so these times cannot be added up from the rows. The program is linked apart from the benchmark, \
+so that its loops stand at other places than those of the checked calls.
 ";
 
 fn line(measured: &[Measured], one: &Measured) -> String {

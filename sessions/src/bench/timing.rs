@@ -33,7 +33,7 @@ pub struct Timer {
     library: Ready,
     second: Ready,
     /// A batch of the library, and the one of the second program right behind it.
-    pairs: Vec<Times>,
+    pairs: Vec<[f64; 2]>,
 }
 
 impl Timer {
@@ -57,23 +57,15 @@ impl Timer {
         while self.pairs.len() < least || begin.elapsed() < budget {
             let library = batch_time(&mut batch, &self.memory, &mut self.library);
             let second = batch_time(&mut batch, &self.memory, &mut self.second);
-            self.pairs.push(Times { library, second });
+            self.pairs.push([library, second]);
         }
     }
 
-    /// The medians over the quietest quarter of the pairs, without reading the clock.
-    ///
-    /// Other work on the machine makes all slower for a while. A pair lies within one such while, and is judged by the
-    /// sum of its two times, so that both programs are seen in the same circumstances.
+    /// The quiet medians of the pairs, without reading the clock.
     pub fn times(&mut self) -> Times {
-        self.pairs.sort_unstable_by(|a, b| (a.library + a.second).total_cmp(&(b.library + b.second)));
-        let quiet = &self.pairs[..self.pairs.len().div_ceil(4)];
         let (clock, copies) = (clock_time(), self.copies() as f64);
-        let call_time = |times: Vec<f64>| (median(times) - clock).max(0.1) / copies;
-        Times {
-            library: call_time(quiet.iter().map(|pair| pair.library).collect()),
-            second: call_time(quiet.iter().map(|pair| pair.second).collect()),
-        }
+        let [library, second] = quiet_medians(&mut self.pairs).map(|time| (time - clock).max(0.1) / copies);
+        Times { library, second }
     }
 }
 
@@ -93,6 +85,17 @@ fn batch_time(batch: &mut [Memory], memory: &Memory, call: &mut Ready) -> f64 {
 /// What it takes to read the clock, which is part of every batch.
 fn clock_time() -> f64 {
     median((0..101).map(|_| Instant::now().elapsed().as_nanos() as f64).collect())
+}
+
+/// The median of each time, over the quietest quarter of the turns.
+///
+/// Other work on the machine makes all slower for a while. A turn lies within one such while, and is judged by the sum
+/// of its times, so that all of them are seen in the same circumstances.
+pub fn quiet_medians<const N: usize>(turns: &mut [[f64; N]]) -> [f64; N] {
+    let sum = |turn: &[f64; N]| turn.iter().sum::<f64>();
+    turns.sort_unstable_by(|a, b| sum(a).total_cmp(&sum(b)));
+    let quiet = &turns[..turns.len().div_ceil(4)];
+    std::array::from_fn(|time| median(quiet.iter().map(|turn| turn[time]).collect()))
 }
 
 fn median(mut times: Vec<f64>) -> f64 {
