@@ -1,5 +1,6 @@
 pub mod Booleans
 pub mod Tests
+pub mod Zeros
 pub mod LayoutLaws
 pub mod TimeLaws
 pub mod LookUpLaws

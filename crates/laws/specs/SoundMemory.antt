@@ -2,10 +2,10 @@
 use mathlib.Core.Path.{_≡_, refl, sym, ap, _∙_, subst}
 use mathlib.Core.Bool.{Bool, true}
 use mathlib.Core.List.{List, [], _∷_, _++_}
-use Prim.Native.Nat.{ℕ, zero, suc, _+_, _-_, _*_, _^_, _≤_, _<_}
+use Prim.Native.Nat.{ℕ, _+_, _-_, _*_, _^_, _≤_, _<_}
 use native.Mathlib.Omega.{arith}
 use lib.Dec.{leb, ltb}
-use lib.ListN.{length, drop, getD, replicate}
+use lib.ListN.{length, drop, getD}
 use lib.Seq.{drop-at, drop-drop}
 use borrow.Author.Tests.{leb-true, ltb-true, le-leb, lt-ltb, eq-eqb}
 use Rattle.rules.specs.declared.Entry.{Entry}
@@ -17,6 +17,7 @@ use Rattle.laws.specs.SoundnessLaws.{Sound}
 use Rattle.laws.specs.Lists.{Each, nil, one, Pairs, none-yet, first, each-map, each-tail, each-head}
 use Rattle.laws.specs.Crowd.{Apart, Some, run-clear, clear-run, few-entries}
 use Rattle.laws.specs.Booleans.{and-left, and-right, true-at}
+use Rattle.laws.specs.Zeros.{zeros, are-zeros}
 
 -- "each entry has a kind of 1, 3 or 4 with a value that fits it, flags below 2^32, key length 1 to 65,535, a run inside the pool"
 pub record Fine (P : ℕ) (pool : List ℕ) (e : Entry) : Type 0 where
@@ -101,11 +102,6 @@ unfolding noneShared
 of-apart none-yet = refl
 of-apart (first {e = e} a h) = rw (clear-run (e .start) (needOf e) a, of-apart h)
 
-zeros : (n : ℕ) → every isZero (replicate n 0) ≡ true
-unfolding every
-zeros zero = refl
-zeros (suc n) = zeros n
-
 encode-form : (n : ℕ) (es : List Entry) → getD (encode n es) 0 0 ≡ 1
 unfolding encode
 encode-form n es = refl
@@ -117,8 +113,8 @@ encode-count n es = refl
 encode-zeros : (n : ℕ) (es : List Entry) → every isZero (drop (2 + 6 * length es) (encode n es)) ≡ true
 unfolding encode
 encode-zeros n es =
-    let z : List ℕ = replicate (n - (2 + 6 * length es)) 0 in
-    ap (every isZero) (sym (drop-drop (6 * length es) 2 (1 ∷ length es ∷ (flat es ++ z))) ∙ drop-at (flat es) z (6 * length es) (length-flat es)) ∙ zeros (n - (2 + 6 * length es))
+    let z : List ℕ = zeros (n - (2 + 6 * length es)) in
+    ap (every isZero) (sym (drop-drop (6 * length es) 2 (1 ∷ length es ∷ (flat es ++ z))) ∙ drop-at (flat es) z (6 * length es) (length-flat es)) ∙ are-zeros (n - (2 + 6 * length es))
 
 -- the words of a sound memory pass the test
 pub sound-encode : {P : ℕ} {m : Memory} → SoundMemory P m → sound (encode (2 + 6 * P) (m .entries)) (m .pool) ≡ true

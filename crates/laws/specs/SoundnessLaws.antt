@@ -6,7 +6,7 @@ use Prim.Native.Nat.{ℕ, zero, suc, _+_, _-_, _*_, _≤_, _<_}
 use native.Mathlib.Omega.{arith}
 use native.Mathlib.Nat.{add-zero, add-suc, suc-add}
 use lib.Dec.{leb, ltb, eqb}
-use lib.ListN.{length, take, drop, getD, replicate, length-drop, take-append-drop}
+use lib.ListN.{length, take, drop, getD, length-drop, take-append-drop}
 use lib.Seq.{take-add, drop-drop}
 use borrow.Author.Tests.{eqb-true, eq-eqb, leb-true, le-leb, ltb-true, not-true}
 use Rattle.rules.specs.declared.Entry.{Entry}
@@ -15,17 +15,9 @@ use Rattle.laws.specs.LayoutLaws.{length-entries}
 use Rattle.rules.specs.Place.{holds, held, freeRun}
 use Rattle.rules.specs.Soundness.{every, isZero, rightLengths, entrySound, noneShared, sound}
 use Rattle.laws.specs.Booleans.{and-left, and-right, true-at}
-
--- ---- conditions
+use Rattle.laws.specs.Zeros.{zeros, zeros-are}
 
 -- ---- the words of a directory
-
-zeros-are : (l : List ℕ) → every isZero l ≡ true → l ≡ replicate (length l) 0
-unfolding every
-zeros-are [] e = refl
-zeros-are (x ∷ l) e =
-    let x0 : x ≡ 0 = eqb-true x 0 (and-left (eqb x 0) (every isZero l) e) in
-    ap (λ (y : ℕ). y ∷ l) x0 ∙ ap (λ (k : List ℕ). 0 ∷ k) (zeros-are l (and-right (eqb x 0) (every isZero l) e))
 
 words-are : (l : List ℕ) → 6 ≤ length l → words (entryOf l) ≡ take 6 l
 words-are [] h = absurd (omega arith)
@@ -62,7 +54,7 @@ dir-of (a ∷ n ∷ w) l f r z =
           ∙ ap (λ (x : List ℕ). 1 ∷ length (decode n w) ∷ x)
           (sym (take-append-drop (6 * n) w)
           ∙ ap (λ (x : List ℕ). x ++ drop (6 * n) w) (sym (flat-decode n w (omega arith)))
-          ∙ ap (λ (x : List ℕ). flat (decode n w) ++ x) (zeros-are (drop (6 * n) w) (sym (ap (every isZero) dd) ∙ z) ∙ ap (λ (k : ℕ). replicate k 0) ez));
+          ∙ ap (λ (x : List ℕ). flat (decode n w) ++ x) (zeros-are (drop (6 * n) w) (sym (ap (every isZero) dd) ∙ z) ∙ ap zeros ez));
       room = omega arith;
       count = len;
     }
