@@ -14,7 +14,7 @@ use Rattle.rules.specs.Place.{holds, held, freeRun}
 use Rattle.laws.specs.SoundnessLaws.{free-cells}
 use Rattle.laws.specs.PlaceLaws.{cells-free}
 use Rattle.laws.specs.Lists.{Each, nil, one, Pairs, none-yet, first, each-map, each-with}
-use Rattle.laws.specs.Booleans.{or-second}
+use Rattle.laws.specs.Booleans.{or-left, or-right, or-second}
 
 -- two entries share no cell: one ends where the other starts, or before
 abbrev pub Apart : Entry → Entry → Type 0
@@ -56,10 +56,6 @@ cells-clear s n f some a free = go (decLt (f .start) (s + n)) (decLt s (f .start
     go (yes x) (yes y) (yes z) = absurd (clash (f .start) (f .start - s) (omega arith) (omega arith) (omega arith) (omega arith))
     go (yes x) (yes y) (no z) = absurd (clash s 0 (omega arith) some (omega arith) y)
 
-or-parts : (x y : Bool) → (x || y) ≡ false → (x ≡ false) × (y ≡ false)
-or-parts true y e = absurd (true≢false e)
-or-parts false y e = (refl, e)
-
 pub held-none : {es : List Entry} (c : ℕ) → Each (λ f. holds f c ≡ false) es → held es c ≡ false
 unfolding held
 held-none c nil = refl
@@ -68,7 +64,7 @@ held-none c (one q h) = rw (q, held-none c h)
 pub none-held : (es : List Entry) (c : ℕ) → held es c ≡ false → Each (λ f. holds f c ≡ false) es
 unfolding held
 none-held [] c h = nil
-none-held (e ∷ es) c h = let p : (holds e c ≡ false) × (held es c ≡ false) = or-parts (holds e c) (held es c) h in one (p .0) (none-held es c (p .1))
+none-held (e ∷ es) c h = one (or-left (holds e c) (held es c) h) (none-held es c (or-right (holds e c) (held es c) h))
 
 -- each entry has a cell
 abbrev pub Some : Entry → Type 0
@@ -79,7 +75,7 @@ free-each : (es : List Entry) (s n : ℕ) → ((j : ℕ) → j < n → held es (
 unfolding held
 free-each [] s n h = nil
 free-each (e ∷ es) s n h =
-    one (λ j l. or-parts (holds e (s + j)) (held es (s + j)) (h j l) .0) (free-each es s n (λ j l. or-parts (holds e (s + j)) (held es (s + j)) (h j l) .1))
+    one (λ j l. or-left (holds e (s + j)) (held es (s + j)) (h j l)) (free-each es s n (λ j l. or-right (holds e (s + j)) (held es (s + j)) (h j l)))
 
 pub clear-of : (es : List Entry) (s n : ℕ) → 0 < n → Each Some es → ((j : ℕ) → j < n → held es (s + j) ≡ false) → Each (Clear s n) es
 clear-of es s n some a h = each-with (λ f x y. cells-clear s n f some x y) a (free-each es s n h)

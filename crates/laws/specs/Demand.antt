@@ -35,11 +35,11 @@ use Rattle.rules.specs.Answer.{numberOf, fieldsOf}
 use Rattle.rules.specs.LookUp.{lookUp}
 use Rattle.rules.specs.Calls.{Work, call, afterSweep, itemOf, storeWork, storeCall, incrWork, incrCall, Item, entryFor, needFor, placeAt, searched, evicted, fitOutcome, placeFit, placedBy, placeAnew}
 use Rattle.rules.specs.LeastLoss.{notSafe, storeMustPlace, storePlacesAnew, incrMustPlace, incrPlacesAnew, LeastLossOf, IncrLosesLeast, Demand3, ownOut, restFor, lineFor, LeastLoss, Cheapest, Costs, Place}
-use Rattle.laws.specs.LeastLossLaws.{passed-is, first-passed, keyed-sound, store-anew, incr-anew, cheapest, no-place, nothing-left, left-counted, after-rounds, stored-key, stored-value}
+use Rattle.laws.specs.LeastLossLaws.{passed-is, first-passed, keyed-sound, store-anew, incr-anew, cheapest, no-place, nothing-left, left-counted, after-rounds}
 use Rattle.laws.specs.Lists.{Each, nil, one, Pairs, none-yet, first, each-sub, each-map, each-with, each-all, each-at}
 use Rattle.laws.specs.Crowd.{Apart, Clear, held-none, clear-cells}
 use Rattle.laws.specs.SoundMemory.{SoundMemory, memory-of}
-use Rattle.laws.specs.Bytes.{Same}
+use Rattle.laws.specs.Bytes.{Same, stored-key, stored-value}
 use Rattle.laws.specs.Blocks.{remove-sub, remove-same, sound-remove, place-same}
 use Rattle.laws.specs.Kept.{oldest-by}
 use Rattle.laws.specs.Keys.{clear-from}
