@@ -5,6 +5,7 @@ pub mod LayoutLaws
 pub mod TimeLaws
 pub mod LookUpLaws
 pub mod RecencyLaws
+pub mod Live
 pub mod SoundnessLaws
 pub mod PlaceLaws
 pub mod CellLaws
