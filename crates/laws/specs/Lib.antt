@@ -9,6 +9,7 @@ pub mod Live
 pub mod SoundnessLaws
 pub mod PlaceLaws
 pub mod CellLaws
+pub mod Marks
 pub mod ChecksLaws
 pub mod CallsLaws
 pub mod LeastLossLaws
