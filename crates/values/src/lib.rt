@@ -87,7 +87,7 @@ pub fn number_bytes(x: i64) -> [u8; 8]
 }
 
 // A byte as a wider number.
-fn wide(x: u8) -> u64
+pub fn wide(x: u8) -> u64
     ensures { λ r. ⌜ (r ≡ x) × (r < 256) ⌝ }
 {
     x as u64
