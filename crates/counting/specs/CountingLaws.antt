@@ -2,7 +2,6 @@
 use mathlib.Core.Path.{_≡_, refl, sym, ap, subst, _∙_}
 use mathlib.Core.Bool.{Bool, true, false, cond}
 use mathlib.Core.List.{List, []}
-use mathlib.Core.Logic.{inl, inr}
 use Prim.Native.Nat.{ℕ, _≤_, _<_}
 use native.Mathlib.Omega.{arith}
 use lib.Dec.{eqb}
@@ -31,8 +30,8 @@ use Rattle.rules.specs.LeastLoss.{LeastLossOf, IncrLosesLeast}
 use Rattle.rules.specs.Calls.{Result, gave, Holds, Work, did, Does, Item, valueGiven, itemOf, rewriteAt, addAt, storeItem, mostRounds, inRange, incrLive, incrNew, incrInitial, incrFound, incrWork, incrCall}
 use Rattle.laws.specs.NumberLaws.{range-fits}
 use Rattle.laws.specs.Blocks.{number-size}
-use Rattle.laws.specs.Bytes.{FineItem, given-fits}
-use Rattle.laws.specs.Carry.{key-passed}
+use Rattle.laws.specs.Bytes.{FineItem}
+use Rattle.laws.specs.Carry.{number-fine}
 use Rattle.laws.specs.ChecksLaws.{then-first, then-next, refused-not}
 use Rattle.laws.specs.ChecksLaws as checks
 use Rattle.laws.specs.Meant.{NoLive}
@@ -108,11 +107,6 @@ pub record Initially (clock lifetime : ℕ) (z : ℤ) (removed : ℕ) (o : Order
   pub of-told : o .told ≡ Sum (held z)
   pub of-removed : o .removed ≡ removed
 
--- a number under a key of a fitting length can be stored
-number-fine : (clock : ℕ) (key : List ℕ) (sum : ℤ) (lifetime : ℕ) → 1 ≤ length key → length key ≤ 65535 → FineItem (itemOf clock key 3 sum [] lifetime 0)
-unfolding itemOf
-number-fine clock key sum lifetime a b = record { fits = given-fits 3 sum [] (inr (inl refl)); few-flags = omega arith; some-key = a; short-key = b }
-
 module _ (clock : ℕ) (key : List ℕ) (step : ℤ) (removed : ℕ) (dir pool : List ℕ) (found : Found) (initial : Initial) where
   abbrev initially : Initial → Work
   initially = incrInitial clock key step removed (memoryOf dir pool) found
@@ -187,7 +181,7 @@ module _ (dir pool : List ℕ) (clock : ℕ) (key : List ℕ) (initial : Initial
   pub countable : (removed : ℕ) → removed ≤ 2 → Countable clock key initial removed
   unfolding incrChecks
   countable removed r =
-      let k : (1 ≤ length key) × (length key ≤ 65535) = key-passed dir pool clock key (sym keyed) in
+      let k : (1 ≤ length key) × (length key ≤ 65535) = checks.key-lengths dir pool clock key keyed in
       record {
         some-key = k .0;
         short-key = k .1;

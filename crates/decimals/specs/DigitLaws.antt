@@ -1,16 +1,15 @@
 -- A number's digits: how many there are, and each of them, from the last to the first.
 use mathlib.Core.Path.{_≡_, refl, sym, ap, _∙_}
-use mathlib.Core.Bool.{Bool, true, false}
-use mathlib.Core.Logic.{_⊎_, inl, inr, ⊎-elim}
+use mathlib.Core.Logic.{⊎-elim}
 use mathlib.Core.List.{List, [], _∷_, _++_}
 use Prim.Native.Nat.{ℕ, zero, suc, _+_, _-_, _*_, _/_, _%_, _^_, _≤_, _<_}
 use native.Mathlib.Nat.{pow-succ'}
 use native.Mathlib.Omega.{arith}
-use lib.Dec.{ltb}
 use lib.ListN.{length, take, getD, length-append}
 use lib.Seq.{getD-take, take-at, take-take, take-all, getD-at}
-use borrow.Author.Tests.{lt-ltb, le-ltb, ltb-true, ltb-false}
+use borrow.Author.Tests.{lt-ltb, le-ltb}
 use Rattle.rules.specs.Replay.{digitsOf, decimal}
+use Rattle.laws.specs.Booleans.{lt-or-ge}
 
 -- ---- one digit, or more
 
@@ -24,13 +23,6 @@ digits-more k n h = simp (le-ltb n 10 h)
 
 -- ---- how many
 
-ten-by : (n : ℕ) (t : Bool) → ltb n 10 ≡ t → (n < 10) ⊎ (10 ≤ n)
-ten-by n true e = inl (ltb-true n 10 e)
-ten-by n false e = inr (ltb-false n 10 e)
-
-by-ten : (n : ℕ) → (n < 10) ⊎ (10 ≤ n)
-by-ten n = ten-by n (ltb n 10) refl
-
 length-one : (k n : ℕ) → n < 10 → length (digitsOf (suc k) n) ≡ 1
 length-one k n h = ap length (digits-one k n h)
 
@@ -38,13 +30,13 @@ length-more : (k n : ℕ) → 10 ≤ n → length (digitsOf (suc k) n) ≡ lengt
 length-more k n h = ap length (digits-more k n h) ∙ length-append (digitsOf k (n / 10)) ((48 + n % 10) ∷ [])
 
 pub length-some : (k n : ℕ) → 1 ≤ length (digitsOf (suc k) n)
-length-some k n = ⊎-elim (λ l. omega (arith, length-one k n l)) (λ g. omega (arith, length-more k n g)) (by-ten n)
+length-some k n = ⊎-elim (λ l. omega (arith, length-one k n l)) (λ g. omega (arith, length-more k n g)) (lt-or-ge n 10)
 
 -- no more than were asked for
 pub length-most : (k n : ℕ) → length (digitsOf k n) ≤ k
 unfolding digitsOf
 length-most zero n = omega arith
-length-most (suc k) n = ⊎-elim (λ l. omega (arith, length-one k n l)) (λ g. omega (arith, length-more k n g, length-most k (n / 10))) (by-ten n)
+length-most (suc k) n = ⊎-elim (λ l. omega (arith, length-one k n l)) (λ g. omega (arith, length-more k n g, length-most k (n / 10))) (lt-or-ge n 10)
 
 -- a number below a power of ten has no more digits than that has zeros
 pub length-within : (j k n : ℕ) → n < 10 ^ suc k → length (digitsOf j n) ≤ suc k
@@ -56,7 +48,7 @@ length-within (suc j) (suc k) n h =
     ⊎-elim
     (λ l. omega (arith, length-one j n l))
     (λ g. omega (arith, length-more j n g, length-within j k (n / 10) (omega arith)))
-    (by-ten n)
+    (lt-or-ge n 10)
 
 -- and all of its digits are among so many: there are no more, however many are asked for
 pub digits-enough : (k n : ℕ) → n < 10 ^ suc k → digitsOf (suc (suc k)) n ≡ digitsOf (suc k) n
@@ -68,7 +60,7 @@ digits-enough (suc k) n h =
     ⊎-elim
     (λ l. digits-one (suc (suc k)) n l ∙ sym (digits-one (suc k) n l))
     (λ g. digits-more (suc (suc k)) n g ∙ ap (λ (x : List ℕ). x ++ ((48 + n % 10) ∷ [])) (digits-enough k (n / 10) (omega arith)) ∙ sym (digits-more (suc k) n g))
-    (by-ten n)
+    (lt-or-ge n 10)
 
 -- ---- a number of 64 bits
 
@@ -121,7 +113,7 @@ lowest-is (suc k) n =
     (λ g.
     let e : length (digitsOf k (n / 10)) + 1 ≡ suc (length (digitsOf k (n / 10))) = omega arith in
     digits-more k n g ∙ ap (λ (x : List ℕ). x ++ ((48 + n % 10) ∷ [])) (lowest-is k (n / 10)) ∙ ap (λ (x : ℕ). lowest x n) (sym (length-more k n g ∙ e)))
-    (by-ten n)
+    (lt-or-ge n 10)
 
 -- the first j of the digits s are still to be written: they are the lowest of the rest
 pub record Unsaid (s : List ℕ) (j rest : ℕ) : Type 0 where

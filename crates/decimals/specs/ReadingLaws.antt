@@ -1,6 +1,6 @@
 -- Reading digits from the front: what a field says is what is left of it says, behind the digits passed.
 use mathlib.Core.Path.{_≡_, refl, sym, ap, _∙_}
-use mathlib.Core.Bool.{Bool, true, false, cond, _&&_}
+use mathlib.Core.Bool.{Bool, cond, _&&_}
 use mathlib.Core.List.{List, [], _∷_}
 use Prim.Native.Nat.{ℕ, suc, _+_, _*_, _-_, _≤_, _<_}
 use native.Mathlib.Omega.{arith}
@@ -10,7 +10,7 @@ use lib.Seq.{drop-cons}
 use borrow.Author.Tests.{le-leb, lt-leb, eq-eqb, ne-eqb}
 use Rattle.rules.specs.Soundness.{every}
 use Rattle.rules.specs.Replay.{says, unread, isDigit, digitsFrom, isDecimal, numberSaid}
-use Rattle.laws.specs.Booleans.{and-true}
+use Rattle.laws.specs.Booleans.{and-true, and-false}
 use Rattle.decimals.specs.Reading.{runSaid}
 
 -- ---- a run of digits
@@ -19,10 +19,6 @@ pub digits-least : (n : ℕ) (l : List ℕ) → n ≤ digitsFrom n l
 unfolding digitsFrom
 digits-least n [] = omega arith
 digits-least n (b ∷ bs) = omega (arith, digits-least (10 * n + (b - 48)) bs)
-
-and-no : (a : Bool) → (a && false) ≡ false
-and-no true = refl
-and-no false = refl
 
 module _ (most n : ℕ) where
   run-end : n ≤ most → runSaid most n [] ≡ says n
@@ -43,7 +39,7 @@ module _ (most n : ℕ) where
 
   run-over : (l : List ℕ) → most < n → runSaid most n l ≡ unread
   unfolding runSaid
-  run-over l h = simp (lt-leb (digitsFrom n l) most (omega (arith, digits-least n l)), and-no)
+  run-over l h = simp (lt-leb (digitsFrom n l) most (omega (arith, digits-least n l)), and-false)
 
 -- the bytes before i are digits, and n is their number
 pub record Run (most : ℕ) (field : List ℕ) (i n : ℕ) : Type 0 where

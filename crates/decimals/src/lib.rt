@@ -22,13 +22,6 @@ pub enum Weight {
     Unread,
 }
 
-// A byte as a wider number.
-fn wide(x: u8) -> u64
-    ensures { λ r. ⌜ r ≡ x ⌝ }
-{
-    x as u64
-}
-
 // The number that digits are, where all are digits and it is no more than `most`. No sum wraps.
 fn run(field: &[u8], most: u64) -> Number
     ensures { λ r. ⌜ number r ≡ runSaid most 0 (now (field .entry)) ⌝ }
@@ -36,7 +29,7 @@ fn run(field: &[u8], most: u64) -> Number
     let mut n: u64 = 0;
     let mut i = 0;
     while i < field.len() {
-        let b = wide(field[i]);
+        let b = words::wide(field[i]);
         if b < 48 {
             return Number::Unread;
         }

@@ -8,13 +8,6 @@ ghost use Rattle.rules.specs.Soundness.{sound, keysDiffer};
 ghost use Rattle.distinct.specs.Hash.{bucketOf};
 ghost use Rattle.distinct.specs.Chains.{linkOf, keyAt, bucketAt, under, Link, Linked};
 
-// A byte as a wider number.
-fn wide(x: u8) -> u64
-    ensures { λ r. ⌜ (r ≡ x) × (r < 256) ⌝ }
-{
-    x as u64
-}
-
 // The entry that a stored link leads to: one is stored as its index and 1, so that a table of zeros leads past all entries.
 fn link(x: u16) -> usize
     ensures { λ r. ⌜ r ≡ linkOf x ⌝ }
@@ -34,7 +27,7 @@ fn bucket(key: &[u8]) -> usize
         i += 4;
     }
     while i < key.len() {
-        h = (31 * h + wide(key[i])) % 4294967296;
+        h = (31 * h + words::wide(key[i])) % 4294967296;
         i += 1;
     }
     (2654435761 * h / 2097152 % 2048) as usize

@@ -1,6 +1,5 @@
 pub mod Choice
 pub mod ChoiceLaws
-pub mod Cells
 pub mod Fitting
 pub mod Least
 pub mod Leaving

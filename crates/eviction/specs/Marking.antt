@@ -1,13 +1,11 @@
 -- The marks of a line, written entry by entry from the longest unused on, are the marks of Cost.
 use mathlib.Core.Path.{_≡_, refl, sym, ap, _∙_}
-use mathlib.Core.Bool.{Bool, true, false, cond, _&&_, _||_}
+use mathlib.Core.Bool.{Bool, true, false, cond, _||_}
 use mathlib.Core.List.{List, [], _∷_, reverse}
 use mathlib.Core.Logic.{⊎-elim}
 use Prim.Native.Nat.{ℕ, zero, suc, _+_, _-_, _*_, _/_, _≤_, _<_}
 use native.Mathlib.Omega.{arith}
-use lib.Dec.{leb, ltb}
 use lib.ListN.{length, drop, getD}
-use borrow.Author.Tests.{leb-true, leb-false, ltb-true, ltb-false}
 use Rattle.rules.specs.declared.Entry.{Entry}
 use Rattle.rules.specs.Layout.{needOf, entryAt, entriesOf, none, Dir}
 use Rattle.rules.specs.Time.{dead}
@@ -20,7 +18,7 @@ use Rattle.laws.specs.Crowd.{Some}
 use Rattle.laws.specs.RecencyLaws.{deads-zero}
 use Rattle.eviction.specs.declared.Turn.{Turn}
 use Rattle.eviction.specs.Turns.{roundOf, moreOf, nextTurn, Joins, Begins, turn-of}
-use Rattle.eviction.specs.Cells.{Written}
+use Rattle.laws.specs.Marks.{Written, written-cells}
 use Rattle.eviction.specs.Lines.{lineTo, line-all, line-words}
 
 -- ---- one cell
@@ -104,17 +102,6 @@ module _ (clock c : ℕ) where
       go : (b : Bool) → held es c ≡ b → cond b (0 + mark clock 30 es c) 0 ≡ mark clock 30 es c
       go true h = omega arith
       go false h = sym (mark-free clock 31 es c h)
-
--- ---- the cells of an entry
-
-written-cells : {old new : List ℕ} {mark : ℕ} (e : Entry) → Written old new (e .start) (e .start + needOf e) mark → (c : ℕ) → getD new c 0 ≡ cond (holds e c) mark (getD old c 0)
-unfolding holds
-written-cells {old} {new} {mark} e w c = go (leb (e .start) c) (ltb c (e .start + needOf e)) refl refl
-  where
-    go : (x y : Bool) → leb (e .start) c ≡ x → ltb c (e .start + needOf e) ≡ y → getD new c 0 ≡ cond (x && y) mark (getD old c 0)
-    go true true p q = w .here c (leb-true _ _ p) (ltb-true _ _ q)
-    go true false p q = w .above c (ltb-false _ _ q)
-    go false y p q = w .below c (leb-false _ _ p)
 
 -- ---- the loop over a directory
 

@@ -11,7 +11,7 @@ ghost use Rattle.rules.specs.Soundness.{sound};
 ghost use Rattle.laws.specs.Cost.{fitWithin};
 ghost use Rattle.eviction.specs.Choice.{Chosen};
 ghost use Rattle.eviction.specs.Turns.{nextTurn};
-ghost use Rattle.eviction.specs.Cells.{Written};
+ghost use Rattle.laws.specs.Marks.{Written};
 ghost use Rattle.eviction.specs.Marking.{Blank, Marked};
 ghost use Rattle.eviction.specs.Least.{LeastLimit};
 ghost use Rattle.eviction.specs.Leaving.{Leaves};

@@ -11,14 +11,13 @@ use borrow.Author.Tests.{eqb-true}
 use Rattle.rules.specs.declared.Entry.{Entry}
 use Rattle.rules.specs.Layout.{needOf, without, toFront, put, part, valueOffset, valueBytes, numberBytes, Memory, entryIn, remove, moveToFront}
 use Rattle.laws.specs.LayoutLaws.{length-put}
-use Rattle.laws.specs.CellLaws.{part-second}
 use Rattle.rules.specs.Soundness.{valueFits}
 use Rattle.rules.specs.Time.{withExpiry}
 use Rattle.rules.specs.Calls.{Item, entryFor, needFor, placeAt, rewriteAt, overwriteAt, addAt, expireAt}
 use Rattle.laws.specs.Lists.{Each, one, first, Sub, sub-without, each-sub, each-at, each-map, each-with, each-all, each-replace, each-mapped, pairs-sub, pairs-out, pairs-replace, pairs-mapped}
 use Rattle.laws.specs.Crowd.{apart-swap, Clear}
 use Rattle.laws.specs.SoundMemory.{Fine, SoundMemory}
-use Rattle.laws.specs.Bytes.{Same, same-bytes, part-put, fine-same, FineItem, fine-item}
+use Rattle.laws.specs.Bytes.{Same, same-bytes, part-put, stored-value, fine-same, FineItem, fine-item}
 
 pub number-size : (pool : List ℕ) (e : Entry) → e .kind ≡ 3 → valueFits pool e ≡ true → e .vlen ≡ 8
 unfolding valueFits
@@ -32,10 +31,6 @@ value-over : (item : Item) (old : Entry) (pool : List ℕ) → length (item .key
 unfolding valueBytes entryFor
 value-over item old pool k b =
     ap (λ (x : ℕ). part (put pool (valueOffset old) (item .value)) (32 * old .start + x) (length (item .value))) k ∙ part-put pool (valueOffset old) (item .value) b
-
-value-new : (item : Item) (s : ℕ) (pool : List ℕ) → 32 * s ≤ length pool → valueBytes (put pool (32 * s) (item .key ++ item .value)) (entryFor item s) ≡ item .value
-unfolding valueBytes entryFor
-value-new item s pool b = part-second pool (32 * s) (item .key) (item .value) b
 
 -- fewer entries, in the same order
 pub remove-sub : (i : ℕ) (m : Memory) → Sub (remove i m .entries) (m .entries)
@@ -163,6 +158,6 @@ module _ {P : ℕ} where
           some-cell = h .some-cell;
           few-cells = h .few-cells;
           pool-size = length-put (m .pool) (32 * s) (item .key ++ item .value) (omega (arith, h .pool-size, length-append (item .key) (item .value))) ∙ h .pool-size;
-          each = one (fine-item s fi b (value-new item s (m .pool) (omega (arith, h .pool-size)))) (each-with (λ x. fine-same) place-same (h .each));
+          each = one (fine-item s fi b (stored-value item (m .pool) s (omega (arith, h .pool-size)))) (each-with (λ x. fine-same) place-same (h .each));
           apart = first {e = entryFor item s} c (h .apart);
         }

@@ -1,7 +1,7 @@
 -- Bytes: what a write leaves, and what makes a stored value fit its kind.
 use mathlib.Core.Path.{_≡_, refl, sym, ap, _∙_}
 use mathlib.Core.Bool.{Bool, true, false, cond, _&&_}
-use mathlib.Core.List.{List, [], append-nil}
+use mathlib.Core.List.{List, [], _++_, append-nil}
 use mathlib.Core.Logic.{⊎-elim, _⊎_}
 use Prim.Native.Nat.{ℕ, zero, suc, _+_, _*_, _^_, _≤_, _<_}
 use native.Mathlib.Omega.{arith}
@@ -13,7 +13,7 @@ use lib.IntN.{ℤ, pos, negsuc}
 use borrow.Author.Tests.{eqb-true}
 use Rattle.rules.specs.declared.Entry.{Entry}
 use Rattle.rules.specs.Layout.{needOf, put, part, keyOffset, valueOffset, keyOf, valueBytes, numberBytes}
-use Rattle.laws.specs.CellLaws.{part-before, part-behind, part-first}
+use Rattle.laws.specs.CellLaws.{part-before, part-behind, part-first, part-second}
 use Rattle.rules.specs.Soundness.{valueFits}
 use Rattle.rules.specs.Calls.{Item, entryFor, needFor, booleanByte, valueGiven}
 use Rattle.laws.specs.SoundMemory.{Fine}
@@ -36,6 +36,15 @@ same-bytes d at s e h w = ⊎-elim behind before w
 
 pub part-put : (d : List ℕ) (at : ℕ) (s : List ℕ) → at ≤ length d → part (put d at s) at (length s) ≡ s
 part-put d at s h = ap (λ (x : List ℕ). part (put d at x) at (length s)) (sym (append-nil s)) ∙ part-first d at s [] h
+
+-- an item written from a cell on is read back by its entry
+pub stored-key : (item : Item) (d : List ℕ) (s : ℕ) → 32 * s ≤ length d → keyOf (put d (32 * s) (item .key ++ item .value)) (entryFor item s) ≡ item .key
+unfolding keyOf entryFor
+stored-key item d s h = part-first d (32 * s) (item .key) (item .value) h
+
+pub stored-value : (item : Item) (d : List ℕ) (s : ℕ) → 32 * s ≤ length d → valueBytes (put d (32 * s) (item .key ++ item .value)) (entryFor item s) ≡ item .value
+unfolding valueBytes entryFor
+stored-value item d s h = part-second d (32 * s) (item .key) (item .value) h
 
 -- ---- values that fit
 

@@ -5,11 +5,11 @@ use mathlib.Core.List.{List, []}
 use mathlib.Core.Logic.{⊎-elim, _⊎_, inl, inr}
 use Prim.Native.Nat.{ℕ, _+_, _*_, _^_, _≤_, _<_}
 use native.Mathlib.Omega.{arith}
-use lib.Dec.{eqb, ltb}
+use lib.Dec.{eqb}
 use lib.ListN.{length}
 use lib.IntN.{ℤ}
-use borrow.Author.Tests.{eqb-true, eqb-false, ltb-false, not-false}
-use Rattle.rules.specs.declared.Outcome.the-variants.{KeyEmpty, KeyTooLong, KindUnknown}
+use borrow.Author.Tests.{eqb-true, not-false}
+use Rattle.rules.specs.declared.Outcome.the-variants.{KindUnknown}
 use Rattle.rules.specs.declared.Check.{Check}
 use Rattle.rules.specs.declared.Check.the-variants.{Passed, Refused}
 use Rattle.rules.specs.declared.Operation.{Operation}
@@ -18,8 +18,9 @@ use Rattle.rules.specs.Layout.{cellsOf, encode, entriesOf, Dir, Memory, memoryO
 use Rattle.laws.specs.LayoutLaws.{entries-encode, length-encode, dir-encode}
 use Rattle.rules.specs.Soundness.{any, sound, keysDiffer, audit}
 use Rattle.laws.specs.SoundnessLaws.{Sound, sound-is}
-use Rattle.rules.specs.Checks.{_then_, refuse, checkKey, checkKind, checkNil, checkLifetime, clockChecks, keyChecks, storeChecks, checkInitial, incrChecks}
-use Rattle.laws.specs.LeastLossLaws.{first-passed, next-passed, refuse-not}
+use Rattle.rules.specs.Checks.{_then_, checkKind, checkNil, checkLifetime, keyChecks, storeChecks, checkInitial, incrChecks}
+use Rattle.laws.specs.ChecksLaws.{refused-not, key-lengths}
+use Rattle.laws.specs.LeastLossLaws.{first-passed, next-passed}
 use Rattle.rules.specs.Calls.{Work, call, itemOf}
 use Rattle.laws.specs.SoundMemory.{SoundMemory, memory-of, sound-of}
 use Rattle.laws.specs.Bytes.{FineItem, given-fits}
@@ -73,20 +74,10 @@ carries-audit {P} {dir} {pool} c = rw (sound-of pool (c .dir-is) (c .dir-size) (
 
 -- ---- what the checks say of a store's item
 
-pub key-passed : (dir pool : List ℕ) (clock : ℕ) (key : List ℕ) → keyChecks dir pool clock key ≡ Passed → (1 ≤ length key) × (length key ≤ 65535)
-unfolding keyChecks checkKey
-key-passed dir pool clock key e =
-    let a : Check = refuse KeyEmpty (eqb (length key) 0) in
-    let b : Check = refuse KeyTooLong (ltb 65535 (length key)) in
-    let c : (a then b) ≡ Passed = next-passed (clockChecks dir pool clock) (a then b) e in
-    let z : length key ≡ 0 → ⊥ = eqb-false (length key) 0 (refuse-not KeyEmpty (eqb (length key) 0) (first-passed a b c)) in
-    let l : length key ≤ 65535 = ltb-false 65535 (length key) (refuse-not KeyTooLong (ltb 65535 (length key)) (next-passed a b c)) in
-    (omega (arith, z), l)
-
 kind-passed : (kind : ℕ) → checkKind kind ≡ Passed → (kind ≡ 0 → ⊥) → (kind ≡ 1) ⊎ ((kind ≡ 3) ⊎ (kind ≡ 4))
 unfolding checkKind any
 kind-passed kind e z =
-    let t : (eqb kind 0 || (eqb kind 1 || (eqb kind 3 || (eqb kind 4 || false)))) ≡ true = not-false (eqb kind 0 || (eqb kind 1 || (eqb kind 3 || (eqb kind 4 || false)))) (refuse-not KindUnknown (not (eqb kind 0 || (eqb kind 1 || (eqb kind 3 || (eqb kind 4 || false))))) e) in
+    let t : (eqb kind 0 || (eqb kind 1 || (eqb kind 3 || (eqb kind 4 || false)))) ≡ true = not-false (eqb kind 0 || (eqb kind 1 || (eqb kind 3 || (eqb kind 4 || false)))) (refused-not KindUnknown (not (eqb kind 0 || (eqb kind 1 || (eqb kind 3 || (eqb kind 4 || false))))) (sym e)) in
     ⊎-elim (λ a. absurd (z (eqb-true kind 0 a)))
     (λ a. ⊎-elim (λ b. inl (eqb-true kind 1 b))
     (λ b. ⊎-elim (λ c. inr (inl (eqb-true kind 3 c)))
@@ -100,16 +91,20 @@ unfolding itemOf
 item-fine clock key kind number text lifetime flags a b f k =
     record { fits = given-fits kind number text k; few-flags = f; some-key = a; short-key = b }
 
+-- a number under a key of a fitting length
+pub number-fine : (clock : ℕ) (key : List ℕ) (sum : ℤ) (lifetime : ℕ) → 1 ≤ length key → length key ≤ 65535 → FineItem (itemOf clock key 3 sum [] lifetime 0)
+number-fine clock key sum lifetime a b = item-fine clock key 3 sum [] lifetime 0 a b (omega arith) (inr (inl refl))
+
 pub store-fine : (op : Operation) (dir pool : List ℕ) (clock : ℕ) (key : List ℕ) (kind : ℕ) (number : ℤ) (text : List ℕ) (lifetime flags : ℕ) → flags < 2 ^ 32 → storeChecks op dir pool clock key kind lifetime ≡ Passed → (itemOf clock key kind number text lifetime flags .kind ≡ 0 → ⊥) → FineItem (itemOf clock key kind number text lifetime flags)
 unfolding storeChecks itemOf
 store-fine op dir pool clock key kind number text lifetime flags f e z =
     let c0 : Check = keyChecks dir pool clock key in
     let e2 : (c0 then checkKind kind) ≡ Passed = first-passed (c0 then checkKind kind) (checkNil op kind) (first-passed (c0 then checkKind kind then checkNil op kind) (checkLifetime clock lifetime) e) in
-    let k : (1 ≤ length key) × (length key ≤ 65535) = key-passed dir pool clock key (first-passed c0 (checkKind kind) e2) in
+    let k : (1 ≤ length key) × (length key ≤ 65535) = key-lengths dir pool clock key (sym (first-passed c0 (checkKind kind) e2)) in
     item-fine clock key kind number text lifetime flags (k .0) (k .1) f (kind-passed kind (next-passed c0 (checkKind kind) e2) z)
 
 pub incr-fine : (dir pool : List ℕ) (clock : ℕ) (key : List ℕ) (initial : Initial) → incrChecks dir pool clock key initial ≡ Passed → (lifetime : ℕ) (sum : ℤ) → FineItem (itemOf clock key 3 sum [] lifetime 0)
 unfolding incrChecks
 incr-fine dir pool clock key initial e lifetime sum =
-    let k : (1 ≤ length key) × (length key ≤ 65535) = key-passed dir pool clock key (first-passed (keyChecks dir pool clock key) (checkInitial clock initial) e) in
-    item-fine clock key 3 sum [] lifetime 0 (k .0) (k .1) (omega arith) (inr (inl refl))
+    let k : (1 ≤ length key) × (length key ≤ 65535) = key-lengths dir pool clock key (sym (first-passed (keyChecks dir pool clock key) (checkInitial clock initial) e)) in
+    number-fine clock key sum lifetime (k .0) (k .1)

@@ -1,16 +1,13 @@
 -- Laws of cells and bytes: entries that share no cell, and parts of a pool that a write leaves alone.
 use mathlib.Core.Path.{_≡_, refl, sym, ap, _∙_, subst}
-use mathlib.Core.Bool.{Bool, true, false, _&&_, _||_, true≢false}
+use mathlib.Core.Bool.{Bool, true, false, _||_, true≢false}
 use mathlib.Core.List.{List, [], _∷_, _++_, append-assoc, reverse, reverse-cons}
-use Prim.Native.Nat.{ℕ, zero, suc, _+_, _-_, _*_, _≤_, _<_}
+use Prim.Native.Nat.{ℕ, zero, suc, _+_, _-_, _≤_, _<_}
 use native.Mathlib.Omega.{arith}
-use native.Mathlib.Decide.{decLt}
-use lib.Dec.{ltb}
 use lib.ListN.{length, take, drop, getD, length-append, length-drop, take-append-drop}
 use lib.Seq.{length-take-le, take-at, drop-at, drop-append-le, take-append-le, drop-drop}
-use borrow.Author.Tests.{lt-ltb, le-leb}
 use Rattle.rules.specs.declared.Entry.{Entry}
-use Rattle.rules.specs.Layout.{needOf, none, without, put, part, keyOffset, valueOffset, keyOf, valueBytes}
+use Rattle.rules.specs.Layout.{needOf, none, without, put, part}
 use Rattle.rules.specs.Place.{holds, held, freeRun}
 use Rattle.rules.specs.Soundness.{noneShared}
 use Rattle.laws.specs.SoundnessLaws.{first-alone}
@@ -150,35 +147,3 @@ part-second d at a b h =
     ap (λ (x : List ℕ). take (length b) (drop (at + length a) x)) e
     ∙ ap (take (length b)) (drop-at (take at d ++ a) (b ++ r) (at + length a) (length-append (take at d) a ∙ ap (λ (x : ℕ). x + length a) (length-take-le at d h)))
     ∙ take-at b r (length b) refl
-
--- ---- an entry whose cells are not written keeps its bytes
-
-holds-in : (e : Entry) (c : ℕ) → e .start ≤ c → c < e .start + needOf e → holds e c ≡ true
-unfolding holds
-holds-in e c l h = ap (λ (b : Bool). b && ltb c (e .start + needOf e)) (le-leb (e .start) c l) ∙ lt-ltb c (e .start + needOf e) h
-
-pub keeps-bytes : (d : List ℕ) (start n : ℕ) (s : List ℕ) (e : Entry) → ((j : ℕ) → j < n → holds e (start + j) ≡ false) → 0 < n → length s ≤ 32 * n → 32 * start ≤ length d → (keyOf (put d (32 * start) s) e ≡ keyOf d e) × (valueBytes (put d (32 * start) s) e ≡ valueBytes d e)
-unfolding keyOf valueBytes
-keeps-bytes d start n s e free some few h = go (decLt start (e .start + needOf e)) (decLt (e .start) (start + n)) (decLt (e .start) start)
-  where
-    clash : (c j : ℕ) → start + j ≡ c → j < n → e .start ≤ c → c < e .start + needOf e → ⊥
-    clash c j w l a b = true≢false (sym (holds-in e c a b) ∙ sym (ap (holds e) w) ∙ free j l)
-
-    before : e .start + needOf e ≤ start → (part (put d (32 * start) s) (keyOffset e) (e .klen) ≡ part d (keyOffset e) (e .klen)) × (part (put d (32 * start) s) (valueOffset e) (e .vlen) ≡ part d (valueOffset e) (e .vlen))
-    before a = (part-before d (32 * start) s (keyOffset e) (e .klen) h (omega arith), part-before d (32 * start) s (valueOffset e) (e .vlen) h (omega arith))
-
-    behind : start + n ≤ e .start → (part (put d (32 * start) s) (keyOffset e) (e .klen) ≡ part d (keyOffset e) (e .klen)) × (part (put d (32 * start) s) (valueOffset e) (e .vlen) ≡ part d (valueOffset e) (e .vlen))
-    behind a = (part-behind d (32 * start) s (keyOffset e) (e .klen) h (omega arith), part-behind d (32 * start) s (valueOffset e) (e .vlen) h (omega arith))
-
-    go : Dec (start < e .start + needOf e) → Dec (e .start < start + n) → Dec (e .start < start) → (part (put d (32 * start) s) (keyOffset e) (e .klen) ≡ part d (keyOffset e) (e .klen)) × (part (put d (32 * start) s) (valueOffset e) (e .vlen) ≡ part d (valueOffset e) (e .vlen))
-    go (no a) q r = before (omega arith)
-    go (yes a) (no b) r = behind (omega arith)
-    go (yes a) (yes b) (yes c) = absurd (clash start 0 (omega arith) some (omega arith) a)
-    go (yes a) (yes b) (no c) = empty (decLt 0 (needOf e))
-      where
-        empty : Dec (0 < needOf e) → (part (put d (32 * start) s) (keyOffset e) (e .klen) ≡ part d (keyOffset e) (e .klen)) × (part (put d (32 * start) s) (valueOffset e) (e .vlen) ≡ part d (valueOffset e) (e .vlen))
-        empty (yes z) = absurd (clash (e .start) (e .start - start) (omega arith) (omega arith) (omega arith) (omega arith))
-        empty (no z) =
-            let k : e .klen ≡ 0 = omega arith in
-            let v : e .vlen ≡ 0 = omega arith in
-            (rw k, rw v)

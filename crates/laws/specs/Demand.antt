@@ -5,9 +5,7 @@ use mathlib.Core.List.{List, [], _∷_, _++_, reverse, reverse-cons, reverse-rev
 use mathlib.Core.Logic.{inl, inr}
 use Prim.Native.Nat.{ℕ, _+_, _-_, _*_, _≤_, _<_}
 use native.Mathlib.Omega.{arith}
-use lib.Dec.{leb, ltb}
 use lib.ListN.{length, getD}
-use borrow.Author.Tests.{leb-true, ltb-true}
 use lib.IntN.{ℤ, _+ℤ_}
 use Rattle.rules.specs.declared.Entry.{Entry}
 use Rattle.rules.specs.declared.Outcome.{Outcome}
@@ -30,16 +28,16 @@ use Rattle.laws.specs.RecencyLaws.{gone-left, rounds-few, never-over}
 use Rattle.rules.specs.Place.{holds, held, Placed, run}
 use Rattle.laws.specs.PlaceLaws.{RanBy, run-ran}
 use Rattle.laws.specs.CellLaws.{Alone, alone-reverse, held-reverse}
-use Rattle.laws.specs.SoundnessLaws.{Sound}
+use Rattle.laws.specs.SoundnessLaws.{Sound, in-holds}
 use Rattle.rules.specs.Answer.{numberOf, fieldsOf}
 use Rattle.rules.specs.LookUp.{lookUp}
 use Rattle.rules.specs.Calls.{Work, call, afterSweep, itemOf, storeWork, storeCall, incrWork, incrCall, Item, entryFor, needFor, placeAt, searched, evicted, fitOutcome, placeFit, placedBy, placeAnew}
 use Rattle.rules.specs.LeastLoss.{notSafe, storeMustPlace, storePlacesAnew, incrMustPlace, incrPlacesAnew, LeastLossOf, IncrLosesLeast, Demand3, ownOut, restFor, lineFor, LeastLoss, Cheapest, Costs, Place}
-use Rattle.laws.specs.LeastLossLaws.{passed-is, first-passed, keyed-sound, store-anew, incr-anew, cheapest, no-place, nothing-left, left-counted, after-rounds, stored-key, stored-value}
+use Rattle.laws.specs.LeastLossLaws.{passed-is, first-passed, keyed-sound, store-anew, incr-anew, cheapest, no-place, nothing-left, left-counted, after-rounds}
 use Rattle.laws.specs.Lists.{Each, nil, one, Pairs, none-yet, first, each-sub, each-map, each-with, each-all, each-at}
 use Rattle.laws.specs.Crowd.{Apart, Clear, held-none, clear-cells}
 use Rattle.laws.specs.SoundMemory.{SoundMemory, memory-of}
-use Rattle.laws.specs.Bytes.{Same}
+use Rattle.laws.specs.Bytes.{Same, stored-key, stored-value}
 use Rattle.laws.specs.Blocks.{remove-sub, remove-same, sound-remove, place-same}
 use Rattle.laws.specs.Kept.{oldest-by}
 use Rattle.laws.specs.Keys.{clear-from}
@@ -80,10 +78,8 @@ each-reverse nil = nil
 each-reverse {Q = Q} (one {e = e} {es = es} q h) = subst (Each Q) (sym (reverse-cons e es)) (each-snoc e q (each-reverse h))
 
 holds-apart : (e f : Entry) (c : ℕ) → Apart e f → holds e c ≡ true → holds f c ≡ false
-unfolding holds
 holds-apart e f c a h =
-    let from : e .start ≤ c = leb-true (e .start) c (and-left (leb (e .start) c) (ltb c (e .start + needOf e)) h) in
-    let to : c < e .start + needOf e = ltb-true c (e .start + needOf e) (and-right (leb (e .start) c) (ltb c (e .start + needOf e)) h) in
+    let b : (e .start ≤ c) × (c < e .start + needOf e) = in-holds e c h in
     let w : e .start + (c - e .start) ≡ c = omega arith in
     ap (holds f) (sym w) ∙ clear-cells (e .start) (needOf e) f a (c - e .start) (omega arith)
 

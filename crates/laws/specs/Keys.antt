@@ -1,6 +1,6 @@
 -- All keys differ, as facts; and that it is kept by what the calls are made of.
 use mathlib.Core.Path.{_≡_, refl, sym, ap, _∙_}
-use mathlib.Core.Bool.{Bool, true, false, not, _||_, true≢false}
+use mathlib.Core.Bool.{Bool, true, false, not}
 use mathlib.Core.List.{List, [], _∷_, _++_, map}
 use Prim.Native.Nat.{ℕ, _+_, _*_, _≤_, _<_}
 use native.Mathlib.Omega.{arith}
@@ -9,7 +9,7 @@ use lib.IntN.{ℤ}
 use borrow.Author.Tests.{not-true}
 use Rattle.rules.specs.declared.Entry.{Entry}
 use Rattle.rules.specs.Layout.{none, without, toFront, put, part, valueOffset, keyOf, numberBytes, Memory, entryIn, remove, moveToFront}
-use Rattle.laws.specs.CellLaws.{part-before, part-first}
+use Rattle.laws.specs.CellLaws.{part-before}
 use Rattle.rules.specs.Place.{held}
 use Rattle.rules.specs.Time.{withExpiry}
 use Rattle.rules.specs.LookUp.{same, keyIs}
@@ -18,11 +18,11 @@ use Rattle.rules.specs.Calls.{Item, entryFor, needFor, placeAt, rewriteAt, over
 use Rattle.laws.specs.Lists.{Each, nil, one, Pairs, none-yet, first, sub-without, each-sub, each-at, each-with, pairs-sub, pairs-out, pairs-replace, pairs-mapped, pairs-with}
 use Rattle.laws.specs.Crowd.{Clear, clear-of}
 use Rattle.laws.specs.SoundMemory.{Fine, SoundMemory, some-cells}
-use Rattle.laws.specs.Bytes.{Same}
+use Rattle.laws.specs.Bytes.{Same, stored-key}
 use Rattle.laws.specs.Finding.{same-is, Other, not-same, Means}
 use Rattle.laws.specs.Blocks.{number-size, remove-sub, remove-same, sound-remove, sound-front, sound-expire, sound-expire-all, others-same, sound-overwrite, sound-add, place-same, sound-place}
 use Rattle.laws.specs.Kept.{Kept}
-use Rattle.laws.specs.Booleans.{and-left, and-right}
+use Rattle.laws.specs.Booleans.{no-true, and-left, and-right, or-left, or-right}
 
 -- ---- the test
 
@@ -30,16 +30,11 @@ use Rattle.laws.specs.Booleans.{and-left, and-right}
 abbrev pub Differ : List ℕ → Entry → Entry → Type 0
 Differ pool e f = Other pool (keyOf pool e) f
 
-or-parts : (x y : Bool) → (x || y) ≡ false → (x ≡ false) × (y ≡ false)
-or-parts true y e = absurd (true≢false e)
-or-parts false y e = (refl, e)
-
 none-under : (pool key : List ℕ) (es : List Entry) → any (keyIs pool key) es ≡ false → Each (Other pool key) es
 unfolding any
 none-under pool key [] t = nil
 none-under pool key (e ∷ es) t =
-    let p : (keyIs pool key e ≡ false) × (any (keyIs pool key) es ≡ false) = or-parts (keyIs pool key e) (any (keyIs pool key) es) t in
-    one (not-same pool key e (p .0)) (none-under pool key es (p .1))
+    one (not-same pool key e (or-left (keyIs pool key e) (any (keyIs pool key) es) t)) (none-under pool key es (or-right (keyIs pool key e) (any (keyIs pool key) es) t))
 
 pub differ-of : (pool : List ℕ) (es : List Entry) → keysDiffer pool es ≡ true → Pairs (Differ pool) es
 unfolding keysDiffer
@@ -51,11 +46,7 @@ differ-of pool (e ∷ es) t =
 
 other-not : (pool key : List ℕ) (e : Entry) → Other pool key e → keyIs pool key e ≡ false
 unfolding keyIs
-other-not pool key e o = go (same (keyOf pool e) key) refl
-  where
-    go : (b : Bool) → same (keyOf pool e) key ≡ b → b ≡ false
-    go true t = absurd (o (same-is (keyOf pool e) key t))
-    go false t = refl
+other-not pool key e o = no-true (same (keyOf pool e) key) (λ t. o (same-is (keyOf pool e) key t))
 
 under-none : (pool key : List ℕ) {es : List Entry} → Each (Other pool key) es → any (keyIs pool key) es ≡ false
 unfolding any
@@ -140,16 +131,12 @@ keys-add {P} i sum m l t h =
     (others-same i m old (numberBytes sum) l (h .sound) n)
     (h .keys)
 
-key-new : (item : Item) (s : ℕ) (pool : List ℕ) → 32 * s ≤ length pool → keyOf (put pool (32 * s) (item .key ++ item .value)) (entryFor item s) ≡ item .key
-unfolding keyOf entryFor
-key-new item s pool b = part-first pool (32 * s) (item .key) (item .value) b
-
 keys-place : {P : ℕ} (item : Item) (s : ℕ) (m : Memory) → s + needFor item ≤ P → Each (Clear s (needFor item)) (m .entries) → Each (Other (m .pool) (item .key)) (m .entries) → Audited P m → Pairs (Differ (placeAt item s m .pool)) (placeAt item s m .entries)
 unfolding placeAt
 keys-place {P} item s m b c o h =
     let new : List ℕ = put (m .pool) (32 * s) (item .key ++ item .value) in
     let same : Each (Same (m .pool) new) (m .entries) = place-same item s m b c (h .sound) in
-    let k : keyOf new (entryFor item s) ≡ item .key = key-new item s (m .pool) (omega (arith, h .sound .pool-size)) in
+    let k : keyOf new (entryFor item s) ≡ item .key = stored-key item (m .pool) s (omega (arith, h .sound .pool-size)) in
     first {e = entryFor item s}
     (each-with (λ f a d q. d (sym (a .key) ∙ q ∙ k)) same o)
     (pairs-with (differ-same (m .pool) new) same (h .keys))

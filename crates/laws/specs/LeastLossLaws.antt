@@ -3,16 +3,16 @@ use mathlib.Core.Path.{_≡_, refl, sym, ap, _∙_, subst}
 use mathlib.Core.Bool.{Bool, true, false, not, cond, _||_, true≢false}
 use mathlib.Core.List.{List, [], _∷_, _++_, reverse, reverse-reverse}
 use mathlib.Core.Logic.{⊎-elim, _⊎_, inl, inr}
-use Prim.Native.Nat.{ℕ, zero, suc, _+_, _*_, _≤_, _<_}
+use Prim.Native.Nat.{ℕ, zero, suc, _+_, _≤_, _<_}
 use native.Mathlib.Omega.{arith}
-use lib.Dec.{eqb, ltb}
+use lib.Dec.{eqb}
 use lib.IntN.{ℤ, _+ℤ_}
 use lib.ListN.{length, drop, length-append, length-reverse}
 use lib.Seq.{drop-at}
-use borrow.Author.Tests.{eqb-false, not-true, not-false}
+use borrow.Author.Tests.{not-true}
 use Rattle.rules.specs.declared.Entry.{Entry}
 use Rattle.rules.specs.declared.Outcome.{Outcome}
-use Rattle.rules.specs.declared.Outcome.the-variants.{Done, Sum, NotSound, KeyEmpty, KeyTooLong}
+use Rattle.rules.specs.declared.Outcome.the-variants.{Done, Sum}
 use Rattle.rules.specs.declared.Check.{Check}
 use Rattle.rules.specs.declared.Check.the-variants.{Passed, Refused}
 use Rattle.rules.specs.declared.Found.{Found}
@@ -20,17 +20,16 @@ use Rattle.rules.specs.declared.Found.the-variants.{Live, Dead, Missing}
 use Rattle.rules.specs.declared.Operation.{Operation}
 use Rattle.rules.specs.declared.Operation.the-variants.{Set, SafeSet, Add, SafeAdd, Replace}
 use Rattle.rules.specs.declared.Initial.the-variants.{Given}
-use Rattle.rules.specs.Layout.{none, keyOf, valueBytes, put, Memory, removeOldest}
+use Rattle.rules.specs.Layout.{none, Memory, removeOldest}
 use Rattle.rules.specs.Recency.{line, after, left, rounds, gone}
 use Rattle.laws.specs.RecencyLaws.{left-nil, gone-left, line-oldest}
 use Rattle.rules.specs.Place.{held}
 use Rattle.laws.specs.PlaceLaws.{FreeBehind, Fewest}
-use Rattle.laws.specs.CellLaws.{Alone, held-append, alone-apart, part-first, part-second}
-use Rattle.rules.specs.Soundness.{sound}
+use Rattle.laws.specs.CellLaws.{Alone, held-append, alone-apart}
 use Rattle.laws.specs.SoundnessLaws.{Sound, sound-is}
-use Rattle.rules.specs.Checks.{passed, _then_, refuse, checkSound, checkClock, checkKey, clockChecks, keyChecks}
-use Rattle.laws.specs.ChecksLaws.{then-first, then-next}
-use Rattle.rules.specs.Calls.{deleteFound, sameLength, storeOver, storeItem, mostRounds, admits, storeAdmitted, storeFound, itemOf, inRange, incrNew, incrInitial, incrFound, Item, entryFor, placeAnew}
+use Rattle.rules.specs.Checks.{passed, _then_, keyChecks}
+use Rattle.laws.specs.ChecksLaws.{then-first, then-next, key-passed, key-lengths}
+use Rattle.rules.specs.Calls.{deleteFound, sameLength, storeOver, storeItem, mostRounds, admits, storeAdmitted, storeFound, itemOf, inRange, incrNew, incrInitial, incrFound, Item, placeAnew}
 use Rattle.rules.specs.LeastLoss.{overwritesNone, notSafe, storeMustPlace, incrMustPlace, ownOut, Place, FreeOrWithin, Costs, Cheapest}
 use Rattle.laws.specs.Booleans.{true-at, and-left, and-right, or-right}
 
@@ -108,14 +107,6 @@ after-rounds clock k m =
     sym (reverse-reverse (removeOldest (length g) m .entries))
     ∙ ap reverse (line-oldest (length g) m l ∙ ap (drop (length g)) (sym e) ∙ drop-at g (left clock k (line m)) (length g) refl)
 
-pub stored-key : (item : Item) (d : List ℕ) (s : ℕ) → 32 * s ≤ length d → keyOf (put d (32 * s) (item .key ++ item .value)) (entryFor item s) ≡ item .key
-unfolding keyOf entryFor
-stored-key item d s h = part-first d (32 * s) (item .key) (item .value) h
-
-pub stored-value : (item : Item) (d : List ℕ) (s : ℕ) → 32 * s ≤ length d → valueBytes (put d (32 * s) (item .key ++ item .value)) (entryFor item s) ≡ item .value
-unfolding valueBytes entryFor
-stored-value item d s h = part-second d (32 * s) (item .key) (item .value) h
-
 -- ---- what the checks say
 
 pub passed-is : (c : Check) → passed c ≡ true → c ≡ Passed
@@ -128,20 +119,8 @@ first-passed a b e = sym (then-first a b (sym e))
 pub next-passed : (a b : Check) → (a then b) ≡ Passed → b ≡ Passed
 next-passed a b e = sym (then-next a b (sym e))
 
-pub refuse-not : (o : Outcome) (b : Bool) → refuse o b ≡ Passed → b ≡ false
-unfolding refuse
-refuse-not o true e = absurd (true≢false (sym (ap passed e)))
-refuse-not o false e = refl
-
 pub keyed-sound : (dir pool : List ℕ) (clock : ℕ) (key : List ℕ) → keyChecks dir pool clock key ≡ Passed → Sound dir pool × (0 < length key)
-unfolding keyChecks clockChecks checkSound checkKey
-keyed-sound dir pool clock key e =
-    let c : (checkSound dir pool then checkClock clock) ≡ Passed = first-passed (checkSound dir pool then checkClock clock) (checkKey key) e in
-    let s : not (sound dir pool) ≡ false = refuse-not NotSound (not (sound dir pool)) (first-passed (checkSound dir pool) (checkClock clock) c) in
-    let k : checkKey key ≡ Passed = next-passed (checkSound dir pool then checkClock clock) (checkKey key) e in
-    let z : eqb (length key) 0 ≡ false = refuse-not KeyEmpty (eqb (length key) 0) (first-passed (refuse KeyEmpty (eqb (length key) 0)) (refuse KeyTooLong (ltb 65535 (length key))) k) in
-    let nz : length key ≡ 0 → ⊥ = eqb-false (length key) 0 z in
-    (sound-is dir pool (not-false (sound dir pool) s), omega (arith, nz))
+keyed-sound dir pool clock key e = (sound-is dir pool (key-passed dir pool clock key (sym e)), key-lengths dir pool clock key (sym e) .0)
 
 -- ---- the stores
 

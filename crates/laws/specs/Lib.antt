@@ -1,12 +1,15 @@
 pub mod Booleans
 pub mod Tests
+pub mod Zeros
 pub mod LayoutLaws
 pub mod TimeLaws
 pub mod LookUpLaws
 pub mod RecencyLaws
+pub mod Live
 pub mod SoundnessLaws
 pub mod PlaceLaws
 pub mod CellLaws
+pub mod Marks
 pub mod ChecksLaws
 pub mod CallsLaws
 pub mod LeastLossLaws

@@ -1,19 +1,20 @@
 -- A loop that writes the rows of the live entries, three numbers each, from the most recent on: what stands after some turns.
 use mathlib.Core.Path.{_≡_, refl, sym, ap, _∙_}
 use mathlib.Core.Bool.{Bool, true, false}
-use mathlib.Core.List.{List, [], _∷_, _++_, map, append-assoc, append-nil}
+use mathlib.Core.List.{List, [], _∷_, _++_, map, map-append, append-assoc, append-nil}
 use Prim.Native.Nat.{ℕ, suc, _+_, _*_, _≤_, _<_, min}
 use native.Mathlib.Numerals.{add-one}
 use native.Mathlib.Nat.{min-eq-left, min-eq-right}
 use native.Mathlib.Omega.{arith}
 use lib.ListN.{length, take, drop, getD, set, length-append, length-map, length-drop, drop-of-length-le, take-append-drop}
-use lib.Seq.{drop-cons, drop-drop, take-at, length-take-le, sets-eq}
+use lib.Seq.{drop-drop, take-at, length-take-le, sets-eq}
 use Rattle.rules.specs.declared.Entry.{Entry}
 use Rattle.rules.specs.declared.Row.{Row}
 use Rattle.rules.specs.Layout.{none, put}
 use Rattle.rules.specs.Time.{dead}
 use Rattle.rules.specs.Calls.{liveOf, rowOf, rowWords}
 use Rattle.laws.specs.LayoutLaws.{length-put}
+use Rattle.laws.specs.Live.{live-dead, live-live}
 use Rattle.words.specs.PutLaws.{put-at}
 
 -- ---- numbers of rows
@@ -35,21 +36,6 @@ put-row t p e h =
     let p1 : p + 1 ≡ suc p = omega arith in
     let p2 : p + 2 ≡ suc (suc p) = omega arith in
     rw (p1, p2) (sets-eq (e .start ∷ e .klen ∷ e .kind ∷ []) t p h)
-
--- ---- the live entries, by the tests that a code makes
-
-map-append : (a b : List Entry) → map rowOf (a ++ b) ≡ map rowOf a ++ map rowOf b
-map-append [] b = refl
-map-append (e ∷ a) b = ap (λ (l : List Row). rowOf e ∷ l) (map-append a b)
-
-module _ (clock : ℕ) (es : List Entry) (i : ℕ) (h : i < length es) where
-  live-dead : dead clock (getD es i none) ≡ true → liveOf clock (drop i es) ≡ liveOf clock (drop (suc i) es)
-  unfolding liveOf
-  live-dead d = ap (liveOf clock) (drop-cons es i none h) ∙ rw d
-
-  live-live : dead clock (getD es i none) ≡ false → liveOf clock (drop i es) ≡ getD es i none ∷ liveOf clock (drop (suc i) es)
-  unfolding liveOf
-  live-live d = ap (liveOf clock) (drop-cons es i none h) ∙ rw d
 
 -- ---- the loop
 
@@ -112,7 +98,7 @@ module _ {clock : ℕ} {es : List Entry} {t₀ t : List ℕ} {i k : ℕ} (r : Ro
               ∙ put-at a b c s (3 * k) la lb
               ∙ ap (λ (l : List ℕ). a ++ (s ++ l)) (drop-drop 3 (3 * k) t₀ ∙ ap (λ (m : ℕ). drop m t₀) n)
               ∙ sym (append-assoc a s (drop (3 * (k + 1)) t₀))
-              ∙ ap (λ (l : List ℕ). l ++ drop (3 * (k + 1)) t₀) (sym (ap rowWords (map-append (r .got) (e ∷ [])) ∙ rows-append (map rowOf (r .got)) (rowOf e ∷ [])));
+              ∙ ap (λ (l : List ℕ). l ++ drop (3 * (k + 1)) t₀) (sym (ap rowWords (map-append rowOf (r .got) (e ∷ [])) ∙ rows-append (map rowOf (r .got)) (rowOf e ∷ [])));
         }
 
   -- the rows written are those of the first live entries

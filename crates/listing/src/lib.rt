@@ -6,7 +6,7 @@ ghost use Prim.Native.Nat.{_+_, _*_, _≤_, min};
 ghost use lib.ListN.{length};
 ghost use Rattle.rules.specs.Layout.{entriesOf, Dir, put, memoryOf};
 ghost use Rattle.rules.specs.Soundness.{sound};
-ghost use Rattle.rules.specs.Calls.{upTo, rowOf, rowWords, flatListing, listedFlat, getKeysFlatCall, listing, getKeysCall};
+ghost use Rattle.rules.specs.Calls.{rowOf, rowWords, flatListing, listedFlat, getKeysFlatCall, listing, getKeysCall};
 ghost use Rattle.listing.specs.Rows.{Listed};
 ghost use Rattle.listing.specs.Filling.{rowAt, Fits, filled};
 ghost use Rattle.listing.specs.Told.{Tells, Told};
@@ -15,19 +15,6 @@ use rules::Check;
 use rules::Entry;
 use rules::Outcome;
 use rules::Row;
-
-// How many rows are written at most: the rows that fit, and no more than the maximum, 0 for none.
-fn most_rows(maximum: u64, room: usize) -> usize
-    ensures { λ r. ⌜ r ≡ upTo maximum room ⌝ }
-{
-    if maximum == 0 {
-        return room;
-    }
-    if (room as u64) < maximum {
-        return room;
-    }
-    maximum as usize
-}
 
 // The three numbers of an entry's row, from p on.
 fn write_row(table: &mut [u64], p: usize, e: Entry)
@@ -73,7 +60,7 @@ pub fn get_keys_flat_in(
     requires { ⌜ sound (now dir) (now pool) ≡ true ⌝ }
     ensures { λ r. ⌜ flatListing r (now (table .exit)) ≡ listedFlat clock maximum (now (table .entry)) (memoryOf (now (dir .entry)) (now (pool .entry))) ⌝ }
 {
-    let most = most_rows(maximum, table.len() / 3);
+    let most = values::up_to(maximum, table.len() / 3);
     let k = write_rows(dir, clock, most, table);
     Answer::plain(Outcome::Count(k as u64), 0)
 }

@@ -1,5 +1,5 @@
 -- The memory that replay owns: no `fresh` yet, or a sound memory at the front of what is lent.
-use mathlib.Core.Path.{_≡_, refl, sym, ap, _∙_, subst}
+use mathlib.Core.Path.{_≡_, sym, ap, _∙_, subst}
 use mathlib.Core.Bool.{Bool, true, false, _&&_}
 use mathlib.Core.Logic.{_⊎_, inl, inr}
 use mathlib.Core.List.{List, [], _++_}
@@ -21,6 +21,7 @@ use Rattle.rules.specs.declared.Check.{Check}
 use Rattle.rules.specs.declared.Check.the-variants.{Passed, Refused}
 use Rattle.rules.specs.Layout.{cellsOf, Memory, memoryOf}
 use Rattle.rules.specs.Soundness.{rightLengths, sound}
+use Rattle.laws.specs.Booleans.{and-false}
 use Rattle.laws.specs.Lists.{nil, none-yet}
 use Rattle.rules.specs.Answer.{plain}
 use Rattle.rules.specs.Checks.{refuse, checkLengths, storeChecks}
@@ -143,13 +144,9 @@ pub fresh-over : (P : ℕ) (s : Replay) {a : Answer} → (length (s .dir) < 2 + 
 unfolding freshened
 fresh-over P s {a} over e = rw (short over) (ap (λ (x : Answer). record { answer = x; after = s }) e)
   where
-    no-and : (b : Bool) → (b && false) ≡ false
-    no-and true = refl
-    no-and false = refl
-
     short : (length (s .dir) < 2 + 6 * P) ⊎ (length (s .pool) < 32 * P) → (leb (2 + 6 * P) (length (s .dir)) && leb (32 * P) (length (s .pool))) ≡ false
     short (inl h) = ap (λ (b : Bool). b && leb (32 * P) (length (s .pool))) (lt-leb (2 + 6 * P) (length (s .dir)) h)
-    short (inr h) = ap (λ (b : Bool). leb (2 + 6 * P) (length (s .dir)) && b) (lt-leb (32 * P) (length (s .pool)) h) ∙ no-and (leb (2 + 6 * P) (length (s .dir)))
+    short (inr h) = ap (λ (b : Bool). leb (2 + 6 * P) (length (s .dir)) && b) (lt-leb (32 * P) (length (s .pool)) h) ∙ and-false (leb (2 + 6 * P) (length (s .dir)))
 
 module _ (P : ℕ) (s : Replay) (low : 1 ≤ P) (high : P ≤ 1024) (hd : 2 + 6 * P ≤ length (s .dir)) (hp : 32 * P ≤ length (s .pool)) where
   pub fresh-made : {a : Answer} {d p : List ℕ} → gave a d p ≡ freshCall (frontDir P s) (frontPool P s) → doneAs a P (d ++ drop (2 + 6 * P) (s .dir)) (p ++ drop (32 * P) (s .pool)) ≡ freshened P s

@@ -7,12 +7,13 @@ use native.Mathlib.Omega.{arith}
 use lib.Dec.{eqb, leb}
 use lib.ListN.{length, take, drop, length-append, length-drop, take-append-drop, drop-of-length-le}
 use lib.Seq.{take-length, drop-at, drop-drop, take-all, take-at, length-take-le}
-use borrow.Author.Tests.{ne-eqb, lt-leb, leb-true, leb-false}
+use borrow.Author.Tests.{ne-eqb, leb-true, leb-false}
 use Rattle.rules.specs.Soundness.{every}
 use Rattle.rules.specs.Layout.{part, put}
 use Rattle.laws.specs.LayoutLaws.{length-put}
-use Rattle.rules.specs.Replay.{linesFrom, linesOf, LineCall, unreadable, callOf, Replay, lineDone, lineWritten, Written, linesDone, header, replayOf}
+use Rattle.rules.specs.Replay.{linesFrom, linesOf, LineCall, callOf, Replay, lineDone, lineWritten, Written, linesDone, header, replayOf}
 use Rattle.scanning.specs.Until.{other}
+use Rattle.lines.specs.LineLaws.{too-long}
 use Rattle.replay.specs.Front.{state}
 use Rattle.replay.specs.LineLaws.{lines-plain, lines-cut, lines-open, before}
 use Rattle.replay.specs.Progress.{room, Done, Lined, written, doneLine, take-put, kept-line}
@@ -22,10 +23,6 @@ use Rattle.replay.specs.Progress.{room, Done, Lined, written, doneLine, 
 -- what is kept of its bytes
 abbrev pub held : List ℕ → List ℕ
 held rest = take 4097 rest
-
-over-long : (line : List ℕ) → 4096 < length line → callOf line ≡ unreadable
-unfolding callOf
-over-long line h = rw (lt-leb (length line) 4096 h)
 
 -- two calls that are the same are done alike
 head-same : (n : ℕ) (a b : List ℕ) (lines : List (List ℕ)) (s : Replay) → callOf a ≡ callOf b → linesDone n (a ∷ lines) s ≡ linesDone n (b ∷ lines) s
@@ -44,13 +41,13 @@ long-same : (n : ℕ) (a b more : List ℕ) (s : Replay) → 4096 < length a →
 unfolding linesFrom
 long-same n a b [] s ha hb =
     ap (λ (c : Bool). linesDone n (cond c [] (a ∷ [])) s) (ne-eqb (length a) 0 (λ z. absurd (omega (arith, z))))
-    ∙ head-same n a b [] s (over-long a ha ∙ sym (over-long b hb))
+    ∙ head-same n a b [] s (too-long a ha ∙ sym (too-long b hb))
     ∙ sym (ap (λ (c : Bool). linesDone n (cond c [] (b ∷ [])) s) (ne-eqb (length b) 0 (λ z. absurd (omega (arith, z)))))
 long-same n a b (x ∷ more) s ha hb =
     go (eqb x 10) (long-same n (a ++ (x ∷ [])) (b ++ (x ∷ [])) more s (omega (arith, length-append a (x ∷ []))) (omega (arith, length-append b (x ∷ []))))
   where
     go : (c : Bool) → linesDone n (linesFrom (a ++ (x ∷ [])) more) s ≡ linesDone n (linesFrom (b ++ (x ∷ [])) more) s → linesDone n (cond c (a ∷ linesFrom [] more) (linesFrom (a ++ (x ∷ [])) more)) s ≡ linesDone n (cond c (b ∷ linesFrom [] more) (linesFrom (b ++ (x ∷ [])) more)) s
-    go true h = head-same n a b (linesFrom [] more) s (over-long a ha ∙ sym (over-long b hb))
+    go true h = head-same n a b (linesFrom [] more) s (too-long a ha ∙ sym (too-long b hb))
     go false h = h
 
 -- what is kept of a line that has not ended does for it, whatever follows

@@ -12,7 +12,8 @@ use Rattle.rules.specs.Layout.{encode, entriesOf, none, replaceAt, Dir, memoryO
 use Rattle.rules.specs.Time.{dead}
 use Rattle.rules.specs.Calls.{liveOf, Holds}
 use Rattle.laws.specs.LayoutLaws.{entries-encode, length-encode, dir-encode}
-use Rattle.upkeep.specs.LiveFrom.{liveFrom, live-not, live-one}
+use Rattle.laws.specs.Live.{live-dead, live-live}
+use Rattle.upkeep.specs.LiveFrom.{liveFrom}
 
 -- how many entries are left, and the memory without the dead ones from `first` on
 pub record Dropped (clock first : ℕ) (dir pool : List ℕ) (left : ℕ) (dir' pool' : List ℕ) : Type 0 where
@@ -72,7 +73,7 @@ module _ {clock first to i : ℕ} {d₀ d : List ℕ} (w : Moved clock first d�
         record {
           kept = w .kept;
           count = w .count;
-          whole = w .whole ∙ ap (λ (l : List Entry). w .kept ++ l) (live-not clock es i h (sym so ∙ t) ∙ ap (λ (k : ℕ). liveOf clock (drop k es)) (sym (add-one i)));
+          whole = w .whole ∙ ap (λ (l : List Entry). w .kept ++ l) (live-dead clock es i h (sym so ∙ t) ∙ ap (λ (k : ℕ). liveOf clock (drop k es)) (sym (add-one i)));
           order = omega (arith, w .order);
           some = omega arith;
           is = w .is;
@@ -106,7 +107,7 @@ module _ {clock first to i : ℕ} {d₀ d : List ℕ} (w : Moved clock first d�
           count = la;
           whole =
               w .whole
-              ∙ ap (λ (y : List Entry). w .kept ++ y) (live-one clock es i h (sym so ∙ t) ∙ ap (λ (f : Entry). f ∷ liveOf clock (drop (suc i) es)) (sym (x ∙ moved-at)) ∙ ap (λ (k : ℕ). e ∷ liveOf clock (drop k es)) (sym (add-one i)))
+              ∙ ap (λ (y : List Entry). w .kept ++ y) (live-live clock es i h (sym so ∙ t) ∙ ap (λ (f : Entry). f ∷ liveOf clock (drop (suc i) es)) (sym (x ∙ moved-at)) ∙ ap (λ (k : ℕ). e ∷ liveOf clock (drop k es)) (sym (add-one i)))
               ∙ sym (append-snoc (w .kept) e (liveOf clock (drop (i + 1) es)));
           order = omega (arith, w .order);
           some = omega arith;

@@ -1,5 +1,4 @@
 pub mod StepLaws
-pub mod UpTo
 pub mod LiveFrom
 pub mod Flushing
 pub mod Dropping

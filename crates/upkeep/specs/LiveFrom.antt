@@ -4,22 +4,13 @@ use mathlib.Core.Bool.{true, false}
 use mathlib.Core.List.{List, [], _∷_, _++_, append-nil}
 use Prim.Native.Nat.{ℕ, suc, _<_}
 use native.Mathlib.Omega.{arith}
-use lib.ListN.{length, take, drop, getD, length-append, List·getD-append}
-use lib.Seq.{take-suc, drop-cons, take-at, drop-at, take-length, drop-length, append-snoc, length-take-le, getD-take}
+use lib.ListN.{length, take, drop, length-append, List·getD-append}
+use lib.Seq.{take-suc, take-at, drop-at, take-length, drop-length, append-snoc, length-take-le, getD-take}
 use Rattle.rules.specs.declared.Entry.{Entry}
 use Rattle.rules.specs.Layout.{none, without, Memory, entryIn, remove}
 use Rattle.rules.specs.Time.{dead}
 use Rattle.rules.specs.Calls.{liveOf}
-
--- the live entries from j on: that at j decides by its expiry
-module _ (clock : ℕ) (es : List Entry) (j : ℕ) (h : j < length es) where
-  pub live-not : dead clock (getD es j none) ≡ true → liveOf clock (drop j es) ≡ liveOf clock (drop (suc j) es)
-  unfolding liveOf
-  live-not d = ap (liveOf clock) (drop-cons es j none h) ∙ rw d
-
-  pub live-one : dead clock (getD es j none) ≡ false → liveOf clock (drop j es) ≡ getD es j none ∷ liveOf clock (drop (suc j) es)
-  unfolding liveOf
-  live-one d = ap (liveOf clock) (drop-cons es j none h) ∙ rw d
+use Rattle.laws.specs.Live.{live-dead, live-live}
 
 -- all of the first entries, and of the others the live ones. The dead ones are removed as `remove` removes them
 unfoldable pub liveFrom : ℕ → ℕ → Memory → Memory
@@ -65,10 +56,10 @@ module _ (clock : ℕ) (m : Memory) (j : ℕ) (h : j < length (m .entries)) wher
       let e : without j (take (suc j) es ++ behind) ≡ take j es ++ liveOf clock (drop j es) =
       ap (without j) sight
       ∙ without-at (take j es) behind (entryIn m j) j (length-take-le j es (omega arith))
-      ∙ ap (λ (l : List Entry). take j es ++ l) (sym (live-not clock es j h d)) in
+      ∙ ap (λ (l : List Entry). take j es ++ l) (sym (live-dead clock es j h d)) in
       ap (λ (l : List Entry). record { entries = l; pool = m .pool }) e
 
   -- if it is live, it stays
   pub from-live : dead clock (entryIn m j) ≡ false → liveFrom clock (suc j) m ≡ liveFrom clock j m
   unfolding liveFrom
-  from-live d = ap (λ (l : List Entry). record { entries = l; pool = m .pool }) (sight ∙ ap (λ (l : List Entry). take j es ++ l) (sym (live-one clock es j h d)))
+  from-live d = ap (λ (l : List Entry). record { entries = l; pool = m .pool }) (sight ∙ ap (λ (l : List Entry). take j es ++ l) (sym (live-live clock es j h d)))

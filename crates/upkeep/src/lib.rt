@@ -8,7 +8,7 @@ ghost use Rattle.rules.specs.declared.Outcome.the-variants.{Done};
 ghost use Rattle.rules.specs.Time.{expiryOf, tooLate};
 ghost use Rattle.rules.specs.LookUp.{lookUp};
 ghost use Rattle.rules.specs.Soundness.{sound};
-ghost use Rattle.rules.specs.Calls.{Does, gave, did, deleteFound, deleteWork, deleteCall, expireFound, expireCall, flushAllWork, flushAllCall, upTo, flushExpiredWork, flushExpiredCall};
+ghost use Rattle.rules.specs.Calls.{Does, gave, did, deleteFound, deleteWork, deleteCall, expireFound, expireCall, flushAllWork, flushAllCall, flushExpiredWork, flushExpiredCall};
 ghost use Rattle.upkeep.specs.Flushing.{GoFrom};
 ghost use Rattle.upkeep.specs.Dropping.{Dropped};
 use rules::Answer;
@@ -119,19 +119,6 @@ pub fn flush_all(dir: &mut [u64], pool: &[u8]) -> Answer
     flush_all_in(dir, pool)
 }
 
-// n, or the maximum if that is less; a maximum of 0 is none.
-fn up_to(maximum: u64, n: usize) -> usize
-    ensures { λ r. ⌜ r ≡ upTo maximum n ⌝ }
-{
-    if maximum == 0 {
-        return n; // for all
-    }
-    if (n as u64) < maximum {
-        return n;
-    }
-    maximum as usize
-}
-
 // The first of the dead entries that go, `most` at most: every dead one behind it goes too. The number of entries if none goes.
 fn first_to_go(dir: &[u64], pool: &[u8], clock: u64, most: usize) -> usize
     requires { ⌜ sound (now dir) (now pool) ≡ true ⌝ }
@@ -181,7 +168,7 @@ pub fn flush_expired_in(dir: &mut [u64], pool: &mut [u8], clock: u64, maximum: u
     ensures { λ r. ⌜ Does (flushExpiredWork clock maximum (memoryOf (now (dir .entry)) (now (pool .entry)))) (length (now (dir .entry))) r (now (dir .exit)) (now (pool .exit)) ⌝ }
 {
     let n = directory::count(dir);
-    let most = up_to(maximum, n);
+    let most = values::up_to(maximum, n);
     let first = first_to_go(dir, pool, clock, most);
     let kept = drop_dead(dir, pool, clock, first);
     Answer::plain(Outcome::Done, n - kept)

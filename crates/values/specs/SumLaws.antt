@@ -1,17 +1,17 @@
 -- Laws of the sum: when the sum of the bits, cut to 64, is the sum of the numbers, and what a sum's answer tells.
 use mathlib.Core.Path.{_≡_, refl, sym, ap, _∙_}
 use mathlib.Core.Bool.{Bool, true, false, cond}
-use mathlib.Core.Logic.{_⊎_, inl, inr, ⊎-elim}
+use mathlib.Core.Logic.{⊎-elim}
 use Prim.Native.Nat.{ℕ, suc, _+_, _-_, _%_, _^_, _≤_, _<_}
 use native.Mathlib.Omega.{arith}
-use lib.Dec.{ltb}
 use lib.IntN.{ℤ, pos, negsuc, _+ℤ_, subℕ}
 use lib.Signed.{mag}
-use borrow.Author.Tests.{lt-ltb, le-ltb, ltb-true, ltb-false}
+use borrow.Author.Tests.{lt-ltb, le-ltb}
 use mir.Syntax.{w64}
 use mir.Val.{toZ, ofZ, SFits}
 use mir.Facts.{toZ-ofZ}
 use Rattle.rules.specs.Calls.{inRange}
+use Rattle.laws.specs.Booleans.{lt-or-ge}
 use Rattle.laws.specs.NumberLaws.{fits-range}
 use Rattle.values.specs.declared.Sum.the-variants.{Is, OutOfRange}
 use Rattle.values.specs.Sum.{sumOf}
@@ -54,17 +54,13 @@ sum-refused z e = refused-by z (inRange z) refl e
 bits-is : (z : ℤ) (s : ℕ) → SFits w64 z → s ≡ ofZ w64 z → Is (toZ w64 s) ≡ sumOf z
 bits-is z s f e = ap (λ (b : ℕ). Is (toZ w64 b)) e ∙ ap Is (toZ-ofZ {w = w64} f) ∙ sym (sum-fits f)
 
-by-test : (a b : ℕ) (t : Bool) → ltb a b ≡ t → (a < b) ⊎ (b ≤ a)
-by-test a b true e = inl (ltb-true a b e)
-by-test a b false e = inr (ltb-false a b e)
-
 -- one of each sign, a and -(k + 1): no sum of these is out of range
 subtract : (a k s : ℕ) → a < 2 ^ 63 → k < 2 ^ 63 → s ≡ (a + (2 ^ 64 - suc k)) % 2 ^ 64 → Is (toZ w64 s) ≡ sumOf (subℕ a (suc k))
 subtract a k s ha hk es =
     ⊎-elim
     (λ l. bits-is (negsuc (suc k - suc a)) s (record { sfits = omega arith }) (omega arith) ∙ ap sumOf (sym (simp (lt-ltb a (suc k) l))))
     (λ g. bits-is (pos (a - suc k)) s (record { sfits = omega arith }) (omega arith) ∙ ap sumOf (sym (simp (le-ltb a (suc k) g))))
-    (by-test a (suc k) (ltb a (suc k)) refl)
+    (lt-or-ge a (suc k))
 
 -- x and y are the bits of a and b, and s is their sum, cut to 64
 pub record Adds (a b : ℤ) (x y s : ℕ) : Type 0 where

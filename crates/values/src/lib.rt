@@ -1,4 +1,4 @@
-// Values and keys: a signed number as eight bytes, sums, the boolean byte, the cells that an entry needs, and key equality in the pool.
+// Numbers and keys: a signed number as eight bytes, sums, the boolean byte, the cells that an entry needs, a number up to a maximum, and key equality in the pool.
 ghost use mathlib.Core.Path.{_≡_};
 ghost use Prim.Native.Nat.{_+_, _*_, _≤_, _<_, _^_};
 ghost use lib.ListN.{length};
@@ -7,7 +7,7 @@ ghost use mir.Syntax.{w64};
 ghost use mir.Val.{toZ, ofZ};
 ghost use Rattle.rules.specs.Layout.{need, numberBytes, numberAt, keyOffset, valueOffset};
 ghost use Rattle.rules.specs.LookUp.{keyIs};
-ghost use Rattle.rules.specs.Calls.{booleanByte};
+ghost use Rattle.rules.specs.Calls.{booleanByte, upTo};
 ghost use Rattle.values.specs.Sum.{sumOf};
 use rules::Entry;
 
@@ -25,6 +25,19 @@ pub fn need(klen: usize, vlen: usize) -> usize
     ensures { λ r. ⌜ r ≡ need (klen + vlen) ⌝ }
 {
     vlen / 32 + (klen + vlen % 32 + 31) / 32
+}
+
+// n, or the maximum if that is less; a maximum of 0 is none.
+pub fn up_to(maximum: u64, n: usize) -> usize
+    ensures { λ r. ⌜ r ≡ upTo maximum n ⌝ }
+{
+    if maximum == 0 {
+        return n; // for all
+    }
+    if (n as u64) < maximum {
+        return n;
+    }
+    maximum as usize
 }
 
 // The bits of x, two's complement.

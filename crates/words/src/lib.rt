@@ -65,7 +65,7 @@ pub fn close_gap(d: &mut [u64], at: usize, n: usize, count: usize)
 }
 
 // A byte as a wider number.
-fn wide(x: u8) -> u64
+pub fn wide(x: u8) -> u64
     ensures { λ r. ⌜ (r ≡ x) × (r < 256) ⌝ }
 {
     x as u64

@@ -25,19 +25,19 @@ wide-requires c κs = search needs
 
 returns : tie.Need-returns Inv-loop μ-loop
 unfolding number
-returns c = run-low _ (c .before .wide .ensures) (omega arith) (c .before .before .before .before .loop .inv) (omega arith)
+returns c = run-low _ (c .before .wide .ensures .0) (omega arith) (c .before .before .before .before .loop .inv) (omega arith)
 
 returns-2 : tie.Need-returns-2 Inv-loop μ-loop
 unfolding number
-returns-2 c = run-high _ (c .before .before .wide .ensures) (omega arith) (c .before .before .before .before .before .loop .inv) (omega arith)
+returns-2 c = run-high _ (c .before .before .wide .ensures .0) (omega arith) (c .before .before .before .before .before .loop .inv) (omega arith)
 
 returns-3 : tie.Need-returns-3 Inv-loop μ-loop
 unfolding number
-returns-3 c = run-stop _ (c .before .before .before .wide .ensures) (omega arith) (c .before .before .before .before .before .before .loop .inv) (omega arith) (omega arith) (omega arith)
+returns-3 c = run-stop _ (c .before .before .before .wide .ensures .0) (omega arith) (c .before .before .before .before .before .before .loop .inv) (omega arith) (omega arith) (omega arith)
 
 returns-4 : tie.Need-returns-4 Inv-loop μ-loop
 unfolding number
-returns-4 c = run-stop _ (c .before .before .before .before .wide .ensures) (omega arith) (c .before .before .before .before .before .before .before .loop .inv) (omega arith) (omega arith) (omega arith)
+returns-4 c = run-stop _ (c .before .before .before .before .wide .ensures .0) (omega arith) (c .before .before .before .before .before .before .before .loop .inv) (omega arith) (omega arith) (omega arith)
 
 mul-n : tie.Need-mul-n Inv-loop μ-loop
 mul-n c = omega arith
@@ -52,7 +52,7 @@ loop-less : tie.Need-loop-less Inv-loop μ-loop
 loop-less c = omega arith
 
 loop-again : tie.Need-loop-again Inv-loop μ-loop
-loop-again c = run-more _ (c .before .before .before .before .wide .ensures) (omega arith) (c .before .before .before .before .before .before .before .loop .inv) (omega arith) (omega arith) (omega arith)
+loop-again c = run-more _ (c .before .before .before .before .wide .ensures .0) (omega arith) (c .before .before .before .before .before .before .before .loop .inv) (omega arith) (omega arith) (omega arith)
 
 returns-5 : tie.Need-returns-5 Inv-loop μ-loop
 unfolding number

@@ -3,7 +3,7 @@ use mathlib.Core.Path.{_∙_}
 use native.Mathlib.Omega.{arith}
 use lib.ListN.{length-set}
 use borrow.Author.Needs.{needs}
-use Rattle.eviction.specs.Cells.{written-first, written-then, written-one}
+use Rattle.laws.specs.Marks.{written-first, written-then, written-one}
 use Rattle.eviction.proofs.mark_entry.Statement.{statement}
 use Rattle.eviction.proofs.mark_entry.Tie as tie
 

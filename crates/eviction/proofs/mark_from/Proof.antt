@@ -2,7 +2,7 @@
 use mathlib.Core.Path.{_≡_}
 use Prim.Native.Nat.{_-_, _≤_}
 use native.Mathlib.Omega.{arith}
-use Rattle.eviction.specs.Cells.{Written, written-none, written-more}
+use Rattle.laws.specs.Marks.{Written, written-none, written-more}
 use Rattle.eviction.proofs.mark_from.Statement.{statement}
 use Rattle.eviction.proofs.mark_from.Tie as tie
 

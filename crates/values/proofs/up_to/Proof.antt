@@ -1,8 +1,8 @@
--- `upkeep::up_to` meets its contract.
+-- `values::up_to` meets its contract.
 use native.Mathlib.Omega.{arith}
-use Rattle.upkeep.specs.UpTo.{up-to-all, up-to-few, up-to-maximum}
-use Rattle.upkeep.proofs.up_to.Statement.{statement}
-use Rattle.upkeep.proofs.up_to.Tie as tie
+use Rattle.values.specs.UpTo.{up-to-all, up-to-few, up-to-maximum}
+use Rattle.values.proofs.up_to.Statement.{statement}
+use Rattle.values.proofs.up_to.Tie as tie
 
 returns : tie.Need-returns
 returns c = up-to-all _ _ (c .if1 .taken)
