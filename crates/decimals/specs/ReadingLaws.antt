@@ -1,6 +1,6 @@
 -- Reading digits from the front: what a field says is what is left of it says, behind the digits passed.
 use mathlib.Core.Path.{_≡_, refl, sym, ap, _∙_}
-use mathlib.Core.Bool.{Bool, cond, _&&_}
+use mathlib.Core.Bool.{Bool, cond, _&&_, and-true, and-false}
 use mathlib.Core.List.{List, [], _∷_}
 use Prim.Native.Nat.{ℕ, suc, _+_, _*_, _-_, _≤_, _<_}
 use native.Mathlib.Omega.{arith}
@@ -10,7 +10,6 @@ use lib.Seq.{drop-cons}
 use borrow.Author.Tests.{le-leb, lt-leb, eq-eqb, ne-eqb}
 use Rattle.rules.specs.Soundness.{every}
 use Rattle.rules.specs.Replay.{says, unread, isDigit, digitsFrom, isDecimal, numberSaid}
-use Rattle.laws.specs.Booleans.{and-true, and-false}
 use Rattle.decimals.specs.Reading.{runSaid}
 
 -- ---- a run of digits

@@ -1,6 +1,6 @@
 -- The memory that replay owns: no `fresh` yet, or a sound memory at the front of what is lent.
 use mathlib.Core.Path.{_≡_, sym, ap, _∙_, subst}
-use mathlib.Core.Bool.{Bool, true, false, _&&_}
+use mathlib.Core.Bool.{Bool, true, false, _&&_, and-false}
 use mathlib.Core.Logic.{_⊎_, inl, inr}
 use mathlib.Core.List.{List, [], _++_}
 use Prim.Native.Nat.{ℕ, _+_, _*_, _≤_, _<_}
@@ -21,7 +21,6 @@ use Rattle.rules.specs.declared.Check.{Check}
 use Rattle.rules.specs.declared.Check.the-variants.{Passed, Refused}
 use Rattle.rules.specs.Layout.{cellsOf, Memory, memoryOf}
 use Rattle.rules.specs.Soundness.{rightLengths, sound}
-use Rattle.laws.specs.Booleans.{and-false}
 use Rattle.laws.specs.Lists.{nil, none-yet}
 use Rattle.rules.specs.Answer.{plain}
 use Rattle.rules.specs.Checks.{refuse, checkLengths, storeChecks}

@@ -1,6 +1,6 @@
 -- A byte looked for: what holds while the bytes are passed, and in the end.
 use mathlib.Core.Path.{_≡_, ap, _∙_}
-use mathlib.Core.Bool.{true, not}
+use mathlib.Core.Bool.{true, not, and-true}
 use mathlib.Core.List.{List, [], _∷_, _++_}
 use Prim.Native.Nat.{ℕ, suc, _+_, _-_, _≤_, _<_}
 use native.Mathlib.Omega.{arith}
@@ -9,7 +9,7 @@ use lib.Seq.{take-suc, getD-drop}
 use borrow.Author.Tests.{ne-eqb}
 use Rattle.rules.specs.Layout.{part}
 use Rattle.rules.specs.Soundness.{every}
-use Rattle.laws.specs.Booleans.{and-left, and-right, and-true}
+use Rattle.laws.specs.Booleans.{and-left, and-right}
 use Rattle.scanning.specs.Until.{other, Until}
 
 -- ---- the bytes passed one by one

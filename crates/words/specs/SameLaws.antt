@@ -1,6 +1,6 @@
 -- Laws of `same`, for a comparison from the end: two lists are the same if what is left of them before an index is.
 use mathlib.Core.Path.{_≡_, refl, sym, ap, _∙_}
-use mathlib.Core.Bool.{Bool, true, false, _&&_, and-false}
+use mathlib.Core.Bool.{Bool, true, false, _&&_, and-false, and-true, and-assoc}
 use mathlib.Core.List.{List, [], _∷_, _++_}
 use Prim.Native.Nat.{ℕ, zero, suc, _+_, _≤_, _<_}
 use native.Mathlib.Omega.{arith}
@@ -11,7 +11,6 @@ use lib.Seq.{length-take-le, take-length, take-add, getD-take, getD-drop, drop-c
 use borrow.Author.Tests.{eq-eqb, ne-eqb}
 use Rattle.rules.specs.Layout.{part, valueOf}
 use Rattle.rules.specs.LookUp.{same}
-use Rattle.laws.specs.Booleans.{and-true, and-assoc}
 use Rattle.laws.specs.NumberLaws.{value-same}
 
 pub same-lengths : (a b : List ℕ) → (length a ≡ length b → ⊥) → false ≡ same a b
