@@ -62,19 +62,12 @@ held-same rest more n s e k = go (leb (length rest) 4097) refl
         ∙ long-same n rest (held rest) more s (omega (arith, leb-false (length rest) 4097 h)) (omega (arith, leb-false (length rest) 4097 h, length-take-le 4097 rest (omega (arith, leb-false (length rest) 4097 h))))
         ∙ sym (ap (λ (x : List (List ℕ)). linesDone n x s) (lines-plain [] (held rest) more k))
 
--- as the code keeps it
-put-front : (d t : List ℕ) → take (length t) (put d 0 t) ≡ t
-unfolding put
-put-front d t = take-at t (drop (0 + length t) d) (length t) refl
-
-pub hold-all : (kept rest : List ℕ) {kept' : List ℕ} → kept' ≡ put kept 0 rest → length rest ≤ 4097 → take (length rest) kept' ≡ held rest
-hold-all kept rest {kept'} e h = ap (take (length rest)) e ∙ put-front kept rest ∙ sym (take-all 4097 rest h)
+-- as the code keeps it: all of it, or the front of a line that is over-long
+pub held-all : (rest : List ℕ) → length rest ≤ 4097 → rest ≡ held rest
+held-all rest h = sym (take-all 4097 rest h)
 
 pub held-length : (rest : List ℕ) → 4097 ≤ length rest → 4097 ≡ length (held rest)
 held-length rest h = sym (length-take-le 4097 rest h)
-
-pub hold-cut : (kept rest : List ℕ) {kept' : List ℕ} → kept' ≡ put kept 0 (held rest) → 4097 ≤ length rest → take 4097 kept' ≡ held rest
-hold-cut kept rest {kept'} e h = ap (take 4097) e ∙ ap (λ (k : ℕ). take k (put kept 0 (held rest))) (held-length rest h) ∙ put-front kept (held rest)
 
 -- with an end: one line
 pub held-ends : (rest : List ℕ) → every (other 10) rest ≡ true → 0 < length rest → linesOf (rest ++ (10 ∷ [])) ≡ linesOf rest

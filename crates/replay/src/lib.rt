@@ -1,7 +1,8 @@
 // Replay: what lines do to a lent memory, one after the other.
 ghost use mathlib.Core.Path.{_≡_};
 ghost use Prim.Native.Nat.{_+_, _≤_, _<_, _^_};
-ghost use lib.ListN.{length, take};
+ghost use lib.ListN.{length};
+ghost use Rattle.rules.specs.Layout.{put};
 ghost use Rattle.rules.specs.Calls.{getCall, deleteCall, storeCall, freshCall};
 ghost use Rattle.rules.specs.Replay.{called, freshened, lineDone};
 ghost use Rattle.rules.specs.declared.Operation.the-variants.{Set};
@@ -254,7 +255,7 @@ pub fn run(
 // Keeps the bytes of a line that has not ended, but no more than tell that it is over-long, and answers how many.
 pub fn hold(kept: &mut [u8], rest: &[u8]) -> usize
     requires { ⌜ 4097 ≤ length (now kept) ⌝ }
-    ensures { λ r. ⌜ (r ≤ 4097) × (take r (now (kept .exit)) ≡ held (now (rest .entry))) ⌝ }
+    ensures { λ r. ⌜ (r ≤ 4097) × (r ≡ length (held (now (rest .entry)))) × (now (kept .exit) ≡ put (now (kept .entry)) 0 (held (now (rest .entry)))) ⌝ }
 {
     if rest.len() <= 4097 {
         words::copy_in(kept, 0, rest);
