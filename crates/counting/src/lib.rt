@@ -1,7 +1,7 @@
 // incr: a live number is added to, and a missing or dead one begins with an initial number where one is given.
 ghost use mathlib.Core.Path.{_≡_};
 ghost use mathlib.Core.Bool.{true};
-ghost use Prim.Native.Nat.{_≤_, _<_};
+ghost use Prim.Native.Nat.{_<_};
 ghost use lib.ListN.{length};
 ghost use Rattle.rules.specs.Layout.{entriesOf, memoryOf};
 ghost use Rattle.rules.specs.LookUp.{lookUp};

@@ -1,10 +1,10 @@
 -- Make fresh: refused for its lengths, or done.
-use mathlib.Core.Path.{_≡_, refl, sym, ap, _∙_}
+use mathlib.Core.Path.{_≡_, sym, ap, _∙_}
 use mathlib.Core.Bool.{Bool, true, false, not}
-use mathlib.Core.List.{List, [], _∷_, _++_, append-nil}
+use mathlib.Core.List.{List, [], _∷_, append-nil}
 use Prim.Native.Nat.{ℕ, suc, _+_, _-_, _≤_}
 use native.Mathlib.Omega.{arith}
-use lib.ListN.{length, take, drop, set, replicate, length-replicate, drop-of-length-le}
+use lib.ListN.{length, drop, set, replicate, length-replicate, drop-of-length-le}
 use borrow.Author.Tests.{not-true, not-false}
 use Rattle.rules.specs.declared.Answer.{Answer}
 use Rattle.rules.specs.declared.Outcome.the-variants.{Done, NotSound}
@@ -12,7 +12,7 @@ use Rattle.rules.specs.Layout.{flat, encode, put, memoryOf}
 use Rattle.rules.specs.Soundness.{rightLengths}
 use Rattle.rules.specs.Answer.{plain}
 use Rattle.rules.specs.Checks.{refuse, checkLengths}
-use Rattle.rules.specs.Calls.{Result, gave, call, freshWork, freshCall}
+use Rattle.rules.specs.Calls.{gave, call, freshWork, freshCall}
 use Rattle.laws.specs.SoundnessLaws.{Lengths, lengths-are}
 
 -- the whole directory cleared but for the form

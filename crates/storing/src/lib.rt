@@ -1,7 +1,7 @@
 // The stores: set, safe_set, add, safe_add, replace and incr. A name that ends in `_in` is for a caller whose memory is known to be sound.
 ghost use mathlib.Core.Path.{_≡_};
 ghost use mathlib.Core.Bool.{true};
-ghost use Prim.Native.Nat.{_+_, _*_, _≤_, _<_};
+ghost use Prim.Native.Nat.{_+_, _*_, _<_};
 ghost use lib.ListN.{length, getD};
 ghost use Rattle.rules.specs.Layout.{entriesOf, none, memoryOf};
 ghost use Rattle.rules.specs.LookUp.{lookUp};

@@ -1,5 +1,5 @@
 -- `distinct::key_again` meets its contract. The invariant: no entry passed has the key, so the rest decides.
-use Prim.Native.Nat.{_+_, _≤_, _-_}
+use Prim.Native.Nat.{_-_}
 use mathlib.Core.Path.{_≡_, sym, _∙_, subst}
 use lib.ListN.{length}
 use Rattle.rules.specs.Layout.{entriesOf}

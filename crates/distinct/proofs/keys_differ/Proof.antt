@@ -1,5 +1,4 @@
 -- `distinct::keys_differ` meets its contract.
-use mathlib.Core.Path.{refl}
 use native.Mathlib.Omega.{arith}
 use borrow.Author.Needs.{needs}
 use Rattle.laws.specs.Buffers.{given-sound}

@@ -1,10 +1,6 @@
 -- `eviction::sweep` meets its contract.
 use Rattle.eviction.specs.Swept.{swept-few, swept-is}
-use mathlib.Core.Path.{_≡_, refl, sym, ap, _∙_}
-use mathlib.Core.List.{List, [], _∷_, _++_}
-use Prim.Native.Nat.{ℕ, zero, suc, _+_, _-_, _*_, _≤_, _<_}
-use native.Mathlib.Omega.{arith}
-use lib.ListN.{length, take, drop, getD, set, length-set}
+use Prim.Native.Nat.{_-_}
 use borrow.Author.Needs.{needs}
 use Rattle.eviction.proofs.sweep.Statement.{statement}
 use Rattle.eviction.proofs.sweep.Tie as tie
