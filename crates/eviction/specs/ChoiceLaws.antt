@@ -15,8 +15,8 @@ use Rattle.laws.specs.RecencyLaws.{rounds-few}
 use Rattle.laws.specs.LeastLossLaws.{gone-counted, left-counted}
 use Rattle.laws.specs.Cost.{fitWithin, first-within, Look, limit-start, limit-nowhere}
 use Rattle.eviction.specs.Choice.{Chosen}
-use Rattle.eviction.specs.Fitting.{fitUnder}
-use Rattle.eviction.specs.Least.{LeastLimit, least-none}
+use Rattle.placement.specs.Fitting.{fitUnder}
+use Rattle.placement.specs.Least.{LeastPlace, least-none}
 use Rattle.eviction.specs.Leaving.{Leaves}
 use Rattle.eviction.specs.Marking.{Marked}
 use Rattle.eviction.specs.Scratch.{lent, kept, lent-length, back-front}
@@ -35,7 +35,7 @@ all-ran clock P n es s k e none =
     let w : ¬ (length (rounds clock k es) < k) = λ l. let no : Look clock P n es (length (rounds clock k es)) ≡ Nowhere = none (length (rounds clock k es)) l in let z : _≡_ {A = ℕ} 0 1 = cc in omega arith in
     omega (arith, rounds-few clock k es)
 
-pub chosen : {clock P n most limit ran went : ℕ} {es : List Entry} {marks : List ℕ} (f : Fit) → Marked clock P es marks → most ≤ 30 → LeastLimit marks n most f limit → Leaves clock limit es ran went → Chosen clock P n most es (record { fit = f; ran = ran; gone = went })
+pub chosen : {clock P n most limit ran went : ℕ} {es : List Entry} {marks : List ℕ} (f : Fit) → Marked clock P es marks → most ≤ 30 → LeastPlace marks n most f limit → Leaves clock limit es ran went → Chosen clock P n most es (record { fit = f; ran = ran; gone = went })
 chosen {clock} {P} {n} {most} {limit} {ran} {went} {es} {marks} (Start s) m b l v =
     let here : Look clock P n es limit ≡ Start s = sym (l .here ∙ fit-look n limit m (omega (arith, l .few))) in
     let none : (j : ℕ) → j < limit → Look clock P n es j ≡ Nowhere = λ j h. sym (fit-look n j m (omega (arith, l .few))) ∙ l .none-before j h in
@@ -56,7 +56,7 @@ chosen {clock} {P} {n} {most} {limit} {ran} {went} {es} {marks} Nowhere m b l v 
     }
 
 -- the same, of marks made in a scratch array of N cells
-pub chosen-scratch : (N : ℕ) {clock n most limit ran went : ℕ} {dir pool back : List ℕ} (s : Sound dir pool) (room : 1024 ≤ N) (f : Fit) → Marked clock (length (lent N s room)) (reverse (entriesOf dir)) back → most ≤ 30 → LeastLimit (take (cellsOf pool) (back ++ kept N s room)) n most f limit → Leaves clock limit (reverse (entriesOf dir)) ran went → Chosen clock (cellsOf pool) n most (line (memoryOf dir pool)) (record { fit = f; ran = ran; gone = went })
+pub chosen-scratch : (N : ℕ) {clock n most limit ran went : ℕ} {dir pool back : List ℕ} (s : Sound dir pool) (room : 1024 ≤ N) (f : Fit) → Marked clock (length (lent N s room)) (reverse (entriesOf dir)) back → most ≤ 30 → LeastPlace (take (cellsOf pool) (back ++ kept N s room)) n most f limit → Leaves clock limit (reverse (entriesOf dir)) ran went → Chosen clock (cellsOf pool) n most (line (memoryOf dir pool)) (record { fit = f; ran = ran; gone = went })
 unfolding memoryOf
 chosen-scratch N {clock} {dir = dir} {pool} {back} s room f m b l v =
     let q : Marked clock (cellsOf pool) (reverse (entriesOf dir)) back = rw (lent-length N s room) at m in

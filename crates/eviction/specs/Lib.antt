@@ -1,7 +1,5 @@
 pub mod Choice
 pub mod ChoiceLaws
-pub mod Fitting
-pub mod Least
 pub mod Leaving
 pub mod Lines
 pub mod Marking

@@ -2,18 +2,16 @@
 ghost use mathlib.Core.Path.{_≡_};
 ghost use mathlib.Core.Bool.{true};
 ghost use mathlib.Core.List.{reverse};
-ghost use Prim.Native.Nat.{ℕ, suc, _+_, _-_, _≤_, _<_, min};
-ghost use lib.ListN.{length, getD};
+ghost use Prim.Native.Nat.{_+_, _≤_, _<_, min};
+ghost use lib.ListN.{length};
 ghost use Rattle.rules.specs.Layout.{cellsOf, need, entriesOf, Dir, memoryOf};
 ghost use Rattle.rules.specs.Recency.{line, sweepCount};
 ghost use Rattle.eviction.specs.Swept.{Swept};
 ghost use Rattle.rules.specs.Soundness.{sound};
-ghost use Rattle.laws.specs.Cost.{fitWithin};
 ghost use Rattle.eviction.specs.Choice.{Chosen};
 ghost use Rattle.eviction.specs.Turns.{nextTurn};
 ghost use Rattle.laws.specs.Marks.{Written};
 ghost use Rattle.eviction.specs.Marking.{Blank, Marked};
-ghost use Rattle.eviction.specs.Least.{LeastLimit};
 ghost use Rattle.eviction.specs.Leaving.{Leaves};
 use rules::Fit;
 
@@ -46,30 +44,6 @@ pub fn sweep(dir: &mut [u64], pool: &mut [u8], clock: u64) -> usize
     let n = sweep_count(dir, pool, clock);
     memory::remove_oldest(dir, pool, n);
     n
-}
-
-// The lowest start from which `need` cells are all marked within the limit. A cell above the limit is stepped past, so that no cell is looked at twice.
-pub fn first_fit(marks: &[u8], limit: u8, need: usize) -> Fit
-    requires { ⌜ 0 < need ⌝ }
-    ensures { λ r. ⌜ r ≡ fitWithin (λ (c : ℕ). getD (now (marks .entry)) c 0) limit need (suc (length (now (marks .entry))) - need) 0 ⌝ }
-{
-    let mut start: usize = 0;
-    'outer: loop {
-        let mut run: usize = 0;
-        loop {
-            if run == need {
-                break 'outer Fit::Start(start);
-            }
-            if start + run == marks.len() {
-                break 'outer Fit::Nowhere;
-            }
-            if limit < marks[start + run] {
-                break;
-            }
-            run += 1;
-        }
-        start += run + 1;
-    }
 }
 
 // The rounds begun, 31 for any more, and how many dead entries the last of them still takes.
@@ -150,36 +124,6 @@ fn mark_line(marks: &mut [u8], dir: &[u64], clock: u64)
     }
 }
 
-// A place, and the limit at which it was found.
-struct Least {
-    fit: Fit,
-    limit: usize,
-}
-
-// The first of the limits 0 to `most` at which there is a first fit.
-fn least_limit(marks: &[u8], need: usize, most: usize) -> Least
-    requires { ⌜ (0 < need) × (most ≤ 30) ⌝ }
-    ensures { λ r. ⌜ LeastLimit (now (marks .entry)) need most (r .fit) (r .limit) ⌝ }
-{
-    let mut limit: usize = 0;
-    loop {
-        let fit = first_fit(marks, limit as u8, need);
-        if let Fit::Start(start) = fit {
-            return Least {
-                fit: Fit::Start(start),
-                limit,
-            };
-        }
-        if most <= limit {
-            return Least {
-                fit: Fit::Nowhere,
-                limit: most,
-            };
-        }
-        limit += 1;
-    }
-}
-
 // How many rounds there are, and how many entries they take.
 struct Rounds {
     ran: usize,
@@ -228,7 +172,7 @@ pub fn choose(dir: &[u64], pool: &[u8], clock: u64, need: usize, most: usize) ->
     let cells = pool.len() / 32;
     let mut marks = [0u8; 1024];
     mark_line(&mut marks[..cells], dir, clock);
-    let least = least_limit(&marks[..cells], need, most);
+    let least = placement::find_place(&marks[..cells], need, most);
     let fit = least.fit;
     let left = rounds_of(dir, clock, least.limit);
     Choice {

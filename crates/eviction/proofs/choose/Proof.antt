@@ -20,17 +20,17 @@ mark-line-requires c κs = lent-blank 1024 (sound-is _ _ (c .before .before .bef
 array-share-prefix-marks : tie.Need-array-share-prefix-marks
 array-share-prefix-marks c = back-room 1024 (sound-is _ _ (c .before .before .before .before .before .pre .0)) (omega arith) (c .before .mark-line .last .0) (c .before .mark-line .ensures .size)
 
-slice-aggregate-least-limit : tie.Need-slice-aggregate-least-limit
-slice-aggregate-least-limit c = back-length 1024 (sound-is _ _ (c .before .before .before .before .before .before .pre .0)) (omega arith) (c .before .before .mark-line .last .0) (c .before .before .mark-line .ensures .size)
+slice-aggregate-find-place : tie.Need-slice-aggregate-find-place
+slice-aggregate-find-place c = back-length 1024 (sound-is _ _ (c .before .before .before .before .before .before .pre .0)) (omega arith) (c .before .before .mark-line .last .0) (c .before .before .mark-line .ensures .size)
 
-least-limit-requires : tie.Need-least-limit-requires
-least-limit-requires c κs = search needs
+find-place-requires : tie.Need-find-place-requires
+find-place-requires c κs = search needs
 
 rounds-of-requires : tie.Need-rounds-of-requires
-rounds-of-requires c κs = (sound-is _ _ (c .before .before .before .before .before .before .before .pre .0) .dir-is, omega (arith, c .least-limit .ensures .few))
+rounds-of-requires c κs = (sound-is _ _ (c .before .before .before .before .before .before .before .pre .0) .dir-is, omega (arith, c .find-place .ensures .few))
 
 returns : tie.Need-returns
-returns c = chosen-scratch 1024 (sound-is _ _ (c .before .before .before .before .before .before .before .before .pre .0)) (omega arith) (c .before .least-limit .result .fit) (c .before .before .before .before .mark-line .ensures) (c .before .before .before .before .before .before .before .before .pre .1 .1) (c .before .least-limit .ensures) (c .rounds-of .ensures)
+returns c = chosen-scratch 1024 (sound-is _ _ (c .before .before .before .before .before .before .before .before .pre .0)) (omega arith) (c .before .find-place .result .fit) (c .before .before .before .before .mark-line .ensures) (c .before .before .before .before .before .before .before .before .pre .1 .1) (c .before .find-place .ensures) (c .rounds-of .ensures)
 
 pub choose-spec : {M : Type 1} → statement M
 choose-spec =
@@ -40,7 +40,7 @@ choose-spec =
     slice-aggregate-mark-line
     mark-line-requires
     array-share-prefix-marks
-    slice-aggregate-least-limit
-    least-limit-requires
+    slice-aggregate-find-place
+    find-place-requires
     rounds-of-requires
     returns)
