@@ -1,5 +1,5 @@
 -- The least limit that has a fit, in one pass: each place that was passed has a cell at or above the bound, and the bound is the cost of a place that was met.
-use mathlib.Core.Path.{_≡_, refl, sym, ap, _∙_}
+use mathlib.Core.Path.{_≡_, refl, sym, _∙_}
 use mathlib.Core.List.{List}
 use Prim.Native.Nat.{ℕ, _+_, _≤_, _<_}
 use native.Mathlib.Omega.{arith}
