@@ -93,7 +93,7 @@ extern "C" {
 #define REEFCANDOR_ANSWER_OUTCOME 0
 #define REEFCANDOR_ANSWER_ROUNDS 1  /* rounds run to make a place */
 #define REEFCANDOR_ANSWER_REMOVED 2 /* entries that sweep, rounds or flush_expired took */
-#define REEFCANDOR_ANSWER_FORCED 3  /* 1 if a round was run */
+#define REEFCANDOR_ANSWER_FORCED 3  /* 1 if the call is done and a live entry left by its rounds */
 #define REEFCANDOR_ANSWER_STALE 4   /* 1 if get_stale answers a dead entry */
 #define REEFCANDOR_ANSWER_KIND 5
 #define REEFCANDOR_ANSWER_FLAGS 6

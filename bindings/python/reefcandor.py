@@ -128,15 +128,14 @@ _WORDS = {
 
 
 class Refused(Exception):
-    """A refused call: why (outcome, name), and what left the memory all the same (rounds, removed, forced)."""
+    """A refused call: why (outcome, name), and what left the memory all the same (rounds, removed)."""
 
-    def __init__(self, outcome, rounds=0, removed=0, forced=False):
-        super().__init__(outcome, rounds, removed, forced)
+    def __init__(self, outcome, rounds=0, removed=0):
+        super().__init__(outcome, rounds, removed)
         self.outcome = Outcome(outcome)
         self.name = self.outcome.name
         self.rounds = rounds
         self.removed = removed
-        self.forced = forced
 
     def __str__(self):
         return _WORDS[self.outcome]
@@ -146,7 +145,7 @@ class NotFound(Refused, KeyError):
     """There is no live entry under the key."""
 
 
-# what a store tells that was done
+# what a store tells that was done: forced if the rounds took a live entry
 Stored = namedtuple("Stored", "rounds removed forced")
 # what an incr tells that was done
 Counted = namedtuple("Counted", "number rounds removed forced")
@@ -165,7 +164,7 @@ def _answer(words):
     if answer.outcome == Outcome.DONE:
         return answer
     refused = NotFound if answer.outcome == Outcome.NOT_FOUND else Refused
-    raise refused(answer.outcome, answer.rounds, answer.removed, bool(answer.forced))
+    raise refused(answer.outcome, answer.rounds, answer.removed)
 
 
 def _signed(bits):

@@ -38,13 +38,13 @@ class Yard(unittest.TestCase):
     def memory(self):
         return bytes(self.yard._dir), bytes(self.yard._pool)
 
-    def refuses(self, outcome, call, *arguments, told=PLAIN, **named):
+    def refuses(self, outcome, call, *arguments, told=(0, 0), **named):
         """The call is refused with this outcome and tells nothing but this."""
         with self.assertRaises(Refused) as caught:
             call(*arguments, **named)
         refused = caught.exception
         self.assertEqual(refused.outcome, outcome)
-        self.assertEqual((refused.rounds, refused.removed, refused.forced), told)
+        self.assertEqual((refused.rounds, refused.removed), told)
         self.assertEqual(isinstance(refused, KeyError), outcome == Outcome.NOT_FOUND)
 
 
@@ -225,7 +225,7 @@ class Plates(Yard):
         self.now = 1499
         self.assertEqual((self.yard["AB12"], self.yard.ttl("AB12")), (14_200, 1))
         self.now = 1500
-        self.refuses(Outcome.NOT_FOUND, self.yard.find, "AB12", told=(0, 1, False))
+        self.refuses(Outcome.NOT_FOUND, self.yard.find, "AB12", told=(0, 1))
 
     def test_p8(self):
         self.fill(lifetime=500)
@@ -234,9 +234,16 @@ class Plates(Yard):
         self.now = 1499
         self.assertEqual(self.order(), "ed")
 
+    def test_not_forced_where_only_dead_ones_go(self):
+        for key, lifetime in [("a", 500), ("b", 500), ("c", 500), ("d", 0)]:
+            self.yard.set(key, 1, lifetime=lifetime)
+        self.now = 1500
+        self.assertEqual(self.yard.set("e", text_for(3)), Stored(1, 3, False))
+        self.assertEqual(self.order(), "ed")
+
     def test_p9_to_p12(self):
         self.fill()
-        self.refuses(Outcome.NO_MEMORY, self.yard.set, "e", text_for(5), told=(4, 4, True))
+        self.refuses(Outcome.NO_MEMORY, self.yard.set, "e", text_for(5), told=(4, 4))
         self.assertEqual(self.order(), "")
         self.fill()
         self.refuses(Outcome.NO_MEMORY, self.yard.safe_set, "e", 5)
@@ -265,7 +272,7 @@ class Refusals(Yard):
         self.fill()
         self.yard["d"] = 2**63 - 1
         self.yard["c"] = True
-        swept = (0, 1, False)
+        swept = (0, 1)
         for outcome, call, *arguments in [
             (Outcome.NOT_FOUND, self.yard.replace, "a", 1),
             (Outcome.EXISTS, self.yard.add, "c", 1),

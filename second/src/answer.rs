@@ -45,7 +45,8 @@ pub struct Answer {
     /// "Removed counts what sweep, rounds and flush_expired take; an entry taken out because it is the call's own key
     /// isn't counted."
     pub removed: u64,
-    /// "'Forced' is set if a round was run, also with 12."
+    /// Request 3 of document 02: "set exactly if the call answers 0 and at least one entry taken by the rounds was live
+    /// at the call's clock".
     pub forced: bool,
     /// get_stale's "stale mark exactly if dead".
     pub stale: bool,

@@ -91,14 +91,16 @@ fn place(dir: &mut [u64], pool: &mut [u8], cells: &mut CellMap, clock: u64, item
         // to remove. A round that removes nothing isn't counted."
         if safe || answer.rounds == MOST_ROUNDS || count(dir) == 0 {
             answer.outcome = NO_MEMORY;
+            answer.forced = false;
             return answer;
         }
+        // Request 3 of document 02: forced "is set exactly if the call answers 0 and at least one entry taken by the
+        // rounds was live at the call's clock". What goes with the round behind the last entry is dead.
+        answer.forced |= !last_is_dead(dir, clock);
         // "remove the last entry whatever its state, then up to two dead ones as in the sweep, then look again"
         evict_last(dir, cells);
         answer.removed += 1 + sweep(dir, cells, clock);
         answer.rounds += 1;
-        // "'Forced' is set if a round was run, also with 12."
-        answer.forced = true;
     }
 }
 

@@ -37,6 +37,7 @@ struct Counts {
     rounds: [u64; MOST_ROUNDS + 1],
     /// 12 after all rounds.
     twelve_after_all: u64,
+    /// Stored after rounds, without and with the forced mark.
     forced: [u64; 2],
     stale: [u64; 2],
     removed: u64,
@@ -143,7 +144,7 @@ impl Counts {
     fn count_answer(&mut self, words: &Words) {
         let [outcome, rounds, removed, forced, stale, ..] = *words;
         self.outcomes[outcome as usize] += 1;
-        self.forced[forced as usize] += 1;
+        self.forced[forced as usize] += u64::from(outcome == 0 && rounds > 0);
         self.stale[stale as usize] += u64::from(outcome == 0);
         self.removed += u64::from(removed > 0);
         self.most_removed = self.most_removed.max(removed);
@@ -189,7 +190,7 @@ impl Counts {
             ("2 to 29 rounds", self.rounds[2..MOST_ROUNDS].iter().any(|&count| count > 0)),
             ("30 rounds", self.rounds[MOST_ROUNDS] > 0),
             ("12 after 30 rounds", self.twelve_after_all > 0),
-            ("forced 0 and 1", !self.forced.contains(&0)),
+            ("rounds that took a live entry, and ones that took none", !self.forced.contains(&0)),
             ("removed above 0", self.removed > 0),
         ];
         reached.iter().filter(|(_, was)| !was).map(|(what, _)| format!("{what}: not reached")).collect()

@@ -19,7 +19,7 @@ const FILES: [(&str, &str); 11] = [
     ),
     ("Time", "dead expiryOf tooLate timeLeft withExpiry"),
     ("LookUp", "same keyIs foundFrom lookUp"),
-    ("Recency", "deads after gone sweepCount sweep"),
+    ("Recency", "deads after gone anyLive sweepCount sweep"),
     ("Place", "holds held freeRun fitFrom firstFree run"),
     ("Soundness", "every any rightLengths valueFits entrySound noneShared sound keysDiffer audit"),
     ("Answer", "plain marked fieldsOf answerWords"),
@@ -32,7 +32,7 @@ const FILES: [(&str, &str); 11] = [
 
 /// The names of Calls, the twelfth file.
 const CALLS: &str = "gave call ask freshWork freshCall afterSweep shown getFound getWork getCall staleFound \
-    getStaleCall deleteFound deleteWork deleteCall entryFor placeAt rewriteAt overwriteAt searched evicted forcedBy \
+    getStaleCall deleteFound deleteWork deleteCall entryFor placeAt rewriteAt overwriteAt searched evicted isPlaced forcedBy \
     fitOutcome placeFit placedBy placeAnew storeOver storeItem mostRounds admits booleanByte valueGiven storeAdmitted \
     storeFound storeWork itemOf storeCall inRange addAt incrLive incrNew incrInitial incrFound incrWork incrCall \
     ttlFound ttlCall expireAt expireFound expireCall flushAllWork flushAllCall flushed upTo flushExpiredWork \
@@ -47,8 +47,8 @@ const CHANGE: &str = "memoryOf encode flat call";
 const FIND: &str = "dead same keyOf keyIs foundFrom lookUp";
 const SWEEP: &str = "deads without remove removeOldest sweepCount sweep afterSweep";
 const READ: &str = "shown numberAt";
-const PUT: &str = "expiryOf entryFor put placeAt toFront rewriteAt overwriteAt after gone fitFrom firstFree run \
-    searched evicted forcedBy fitOutcome placeFit placedBy placeAnew storeOver storeItem mostRounds booleanByte \
+const PUT: &str = "expiryOf entryFor put placeAt toFront rewriteAt overwriteAt after gone anyLive fitFrom firstFree run \
+    searched evicted isPlaced forcedBy fitOutcome placeFit placedBy placeAnew storeOver storeItem mostRounds booleanByte \
     numberBytes valueGiven itemOf";
 const STORE: &str = "checkKind takesNil checkNil tooLate checkLifetime storeChecks admits deleteFound storeAdmitted \
     storeFound storeWork storeCall";

@@ -159,11 +159,24 @@ static void p5_to_p8(void) {
     order("ed", "P8: d stays");
 }
 
+/* a, b, c dead at 0, 1, 2, d live at 3: the sweep takes a and b, round 1 takes c */
+static void only_dead_ones_go(void) {
+    fresh();
+    set_number(1000, "a", 1, 500);
+    set_number(1000, "b", 2, 500);
+    set_number(1000, "c", 3, 500);
+    set_number(1000, "d", 4, 0);
+    reefcandor_set(dir, DIR, pool, POOL, 1500, bytes("e"), 1, REEFCANDOR_KIND_TEXT, 0, text, text_for(3), 0, 0, answer);
+    answers((struct told){.rounds = 1, .removed = 3}, "only dead ones go: not forced");
+    order("ed", "only dead ones go: d stays");
+    start_of_first(0, "only dead ones go: start");
+}
+
 static void p9_to_p12(void) {
     uint64_t before[DIR];
     full_yard(0);
     set_cells("e", 5);
-    answers((struct told){.outcome = REEFCANDOR_NO_MEMORY, .rounds = 4, .removed = 4, .forced = 1}, "P9: 12, rounds 4");
+    answers((struct told){.outcome = REEFCANDOR_NO_MEMORY, .rounds = 4, .removed = 4}, "P9: 12, rounds 4");
     order("", "P9: no entries");
     full_yard(0);
     memcpy(before, dir, sizeof dir);
@@ -321,6 +334,7 @@ static void unsound(void) {
 int main(void) {
     p2_to_p4();
     p5_to_p8();
+    only_dead_ones_go();
     p9_to_p12();
     replay_example();
     keys_and_numbers();

@@ -21,12 +21,12 @@ impl Answer {
     /// The words of a call that was done, or its refusal.
     pub fn of(words: Words) -> Result<Answer, Refused> {
         let [outcome, rounds, removed, forced, stale, kind, flags, number, offset, length] = words;
-        let (forced, stale) = (forced != 0, stale != 0);
         if outcome != 0 {
             // the library answers no other number; if it did, nothing that it tells could be relied on
             let refusal = Refusal::from_number(outcome).unwrap_or(Refusal::NotSound);
-            return Err(Refused { refusal, rounds, removed, forced });
+            return Err(Refused { refusal, rounds, removed });
         }
+        let (forced, stale) = (forced != 0, stale != 0);
         let stored = Stored { rounds, removed, forced };
         // flags are an argument of 32 bits, and sound memories hold no others
         Ok(Answer { stored, stale, kind, flags: flags as u32, number, offset, length })
@@ -62,7 +62,7 @@ pub struct Stored {
     pub rounds: u64,
     /// Entries that the sweep and the rounds took; the key's own old entry is not counted.
     pub removed: u64,
-    /// Whether a round was run.
+    /// Whether the rounds took a live entry.
     pub forced: bool,
 }
 

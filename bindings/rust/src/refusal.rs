@@ -92,8 +92,6 @@ pub struct Refused {
     pub rounds: u64,
     /// Entries that the sweep and the rounds took.
     pub removed: u64,
-    /// Whether a round was run.
-    pub forced: bool,
 }
 
 impl fmt::Display for Refused {

@@ -1,5 +1,6 @@
 -- The least limit over the marks of a line tells what the rounds of 01 come to.
 use mathlib.Core.Path.{_≡_, refl, sym, ap, _∙_, fun-ext}
+use mathlib.Core.Bool.{Bool}
 use mathlib.Core.List.{List, _++_, reverse}
 use Prim.Native.Nat.{ℕ, suc, _-_, _≤_, _<_}
 use native.Mathlib.Omega.{arith}
@@ -8,7 +9,7 @@ use Rattle.rules.specs.declared.Entry.{Entry}
 use Rattle.rules.specs.declared.Fit.{Fit}
 use Rattle.rules.specs.declared.Fit.the-variants.{Start, Nowhere}
 use Rattle.rules.specs.Layout.{cellsOf, entriesOf, memoryOf}
-use Rattle.rules.specs.Recency.{line, rounds, gone}
+use Rattle.rules.specs.Recency.{line, rounds, gone, anyLive}
 use Rattle.rules.specs.Place.{firstFree, run}
 use Rattle.laws.specs.SoundnessLaws.{Sound}
 use Rattle.laws.specs.RecencyLaws.{rounds-few}
@@ -35,8 +36,8 @@ all-ran clock P n es s k e none =
     let w : ¬ (length (rounds clock k es) < k) = λ l. let no : Look clock P n es (length (rounds clock k es)) ≡ Nowhere = none (length (rounds clock k es)) l in let z : _≡_ {A = ℕ} 0 1 = cc in omega arith in
     omega (arith, rounds-few clock k es)
 
-pub chosen : {clock P n most limit ran went : ℕ} {es : List Entry} {marks : List ℕ} (f : Fit) → Marked clock P es marks → most ≤ 30 → LeastPlace marks n most f limit → Leaves clock limit es ran went → Chosen clock P n most es (record { fit = f; ran = ran; gone = went })
-chosen {clock} {P} {n} {most} {limit} {ran} {went} {es} {marks} (Start s) m b l v =
+pub chosen : {clock P n most limit ran went : ℕ} {b : Bool} {es : List Entry} {marks : List ℕ} (f : Fit) → Marked clock P es marks → most ≤ 30 → LeastPlace marks n most f limit → Leaves clock limit es ran went b → Chosen clock P n most es (record { fit = f; ran = ran; gone = went; live = b })
+chosen {clock} {P} {n} {most} {limit} {ran} {went} {b} {es} {marks} (Start s) m few l v =
     let here : Look clock P n es limit ≡ Start s = sym (l .here ∙ fit-look n limit m (omega (arith, l .few))) in
     let none : (j : ℕ) → j < limit → Look clock P n es j ≡ Nowhere = λ j h. sym (fit-look n j m (omega (arith, l .few))) ∙ l .none-before j h in
     let r : (run clock P n most es .fit ≡ Start s) × (run clock P n most es .ran ≡ limit) = limit-start clock P n es most s limit (l .few) here none in
@@ -44,8 +45,9 @@ chosen {clock} {P} {n} {most} {limit} {ran} {went} {es} {marks} (Start s) m b l 
       fit = sym (r .0);
       ran = v .ran ∙ all-ran clock P n es s limit here none ∙ sym (r .1);
       gone = v .went ∙ ap (λ (k : ℕ). length (gone clock k es)) (sym (r .1));
+      live = v .live ∙ ap (λ (k : ℕ). anyLive clock (gone clock k es)) (sym (r .1));
     }
-chosen {clock} {P} {n} {most} {limit} {ran} {went} {es} {marks} Nowhere m b l v =
+chosen {clock} {P} {n} {most} {limit} {ran} {went} {b} {es} {marks} Nowhere m few l v =
     let e : limit ≡ most = l .last refl in
     let none : (j : ℕ) → j ≤ most → Look clock P n es j ≡ Nowhere = λ j h. sym (fit-look n j m (omega arith)) ∙ least-none l j h in
     let r : (run clock P n most es .fit ≡ Nowhere) × (run clock P n most es .ran ≡ length (rounds clock most es)) = limit-nowhere clock P n es most none in
@@ -53,11 +55,12 @@ chosen {clock} {P} {n} {most} {limit} {ran} {went} {es} {marks} Nowhere m b l v 
       fit = sym (r .0);
       ran = v .ran ∙ ap (λ (k : ℕ). length (rounds clock k es)) e ∙ sym (r .1);
       gone = v .went ∙ ap (λ (k : ℕ). length (gone clock k es)) e ∙ sym (ap (λ (k : ℕ). length (gone clock k es)) (r .1) ∙ ap length (gone-counted clock most es));
+      live = v .live ∙ ap (λ (k : ℕ). anyLive clock (gone clock k es)) e ∙ sym (ap (λ (k : ℕ). anyLive clock (gone clock k es)) (r .1) ∙ ap (anyLive clock) (gone-counted clock most es));
     }
 
 -- the same, of marks made in a scratch array of N cells
-pub chosen-scratch : (N : ℕ) {clock n most limit ran went : ℕ} {dir pool back : List ℕ} (s : Sound dir pool) (room : 1024 ≤ N) (f : Fit) → Marked clock (length (lent N s room)) (reverse (entriesOf dir)) back → most ≤ 30 → LeastPlace (take (cellsOf pool) (back ++ kept N s room)) n most f limit → Leaves clock limit (reverse (entriesOf dir)) ran went → Chosen clock (cellsOf pool) n most (line (memoryOf dir pool)) (record { fit = f; ran = ran; gone = went })
+pub chosen-scratch : (N : ℕ) {clock n most limit ran went : ℕ} {b : Bool} {dir pool back : List ℕ} (s : Sound dir pool) (room : 1024 ≤ N) (f : Fit) → Marked clock (length (lent N s room)) (reverse (entriesOf dir)) back → most ≤ 30 → LeastPlace (take (cellsOf pool) (back ++ kept N s room)) n most f limit → Leaves clock limit (reverse (entriesOf dir)) ran went b → Chosen clock (cellsOf pool) n most (line (memoryOf dir pool)) (record { fit = f; ran = ran; gone = went; live = b })
 unfolding memoryOf
-chosen-scratch N {clock} {dir = dir} {pool} {back} s room f m b l v =
+chosen-scratch N {clock} {dir = dir} {pool} {back} s room f m few l v =
     let q : Marked clock (cellsOf pool) (reverse (entriesOf dir)) back = rw (lent-length N s room) at m in
-    chosen f q b (rw (back-front N s room back (m .size)) at l) v
+    chosen f q few (rw (back-front N s room back (m .size)) at l) v

@@ -1,24 +1,26 @@
 -- The rounds that run, counted entry by entry from the longest unused on.
-use mathlib.Core.Path.{_≡_, sym, ap, _∙_}
-use mathlib.Core.Bool.{Bool}
+use mathlib.Core.Path.{_≡_, refl, sym, ap, _∙_}
+use mathlib.Core.Bool.{Bool, false, not, _||_, or-assoc, or-false}
 use mathlib.Core.List.{List, [], _∷_, reverse}
 use mathlib.Core.Logic.{⊎-elim}
 use Prim.Native.Nat.{ℕ, suc, _+_, _-_, _≤_, _<_}
 use native.Mathlib.Omega.{arith}
-use lib.ListN.{length, drop, getD, length-append, length-take}
+use lib.ListN.{length, take, drop, getD, length-append, length-take}
+use lib.Seq.{take-at}
 use Rattle.rules.specs.declared.Entry.{Entry}
 use Rattle.rules.specs.Layout.{none}
 use Rattle.rules.specs.Time.{dead}
-use Rattle.rules.specs.Recency.{deads, after, rounds, gone}
-use Rattle.laws.specs.RecencyLaws.{deads-zero, deads-within}
+use Rattle.rules.specs.Recency.{deads, after, rounds, left, gone, anyLive}
+use Rattle.laws.specs.RecencyLaws.{deads-zero, deads-within, gone-left}
 use Rattle.eviction.specs.declared.Turn.{Turn}
 use Rattle.eviction.specs.Turns.{roundOf, nextTurn, Joins, Begins, turn-of}
 use Rattle.eviction.specs.Lines.{lineTo, line-all, line-next, deads-nil, rounds-nil, gone-nil}
 
--- how many of the first `limit` rounds of a line there are, and how many entries they take
-pub record Leaves (clock limit : ℕ) (es : List Entry) (n m : ℕ) : Type 0 where
+-- how many of the first `limit` rounds of a line there are, how many entries they take, and whether one of those is live
+pub record Leaves (clock limit : ℕ) (es : List Entry) (n m : ℕ) (b : Bool) : Type 0 where
   pub ran : n ≡ length (rounds clock limit es)
   pub went : m ≡ length (gone clock limit es)
+  pub live : b ≡ anyLive clock (gone clock limit es)
 
 -- ---- what is left to count, by the turn of the entry before
 
@@ -28,6 +30,10 @@ module _ (clock limit : ℕ) where
 
   abbrev wentFrom : Turn → List Entry → ℕ
   wentFrom t es = deads clock (t .more) es + length (gone clock (limit - t .round) (drop (deads clock (t .more) es) es))
+
+  -- those that are left to count stand first
+  abbrev liveFrom : Turn → List Entry → Bool
+  liveFrom t es = anyLive clock (take (wentFrom t es) es)
 
   -- from an entry to the next, one more has gone
   record Steps (t u : Turn) (e : Entry) (es : List Entry) : Type 0 where
@@ -71,6 +77,17 @@ module _ (clock limit : ℕ) where
       begins : Begins clock (t .round) (t .more) e es → Ends t (e ∷ es)
       begins b = let w : limit - t .round ≡ 0 = omega (arith, b .round) in record { ran = rw (b .none, w) (omega arith); went = rw (b .none, w) }
 
+  step-live : {t u : Turn} {e : Entry} {es : List Entry} → Steps t u e es → liveFrom t (e ∷ es) ≡ (not (dead clock e) || liveFrom u es)
+  unfolding anyLive
+  step-live s = rw (s .went)
+
+  end-live : {t : Turn} {es : List Entry} → Ends t es → liveFrom t es ≡ false
+  unfolding anyLive
+  end-live s = rw (s .went)
+
+  gone-first : (es : List Entry) → gone clock limit es ≡ take (length (gone clock limit es)) es
+  gone-first es = sym (take-at (gone clock limit es) (left clock limit es) (length (gone clock limit es)) refl) ∙ ap (take (length (gone clock limit es))) (gone-left clock limit es)
+
   ends : (t : Turn) → Ends t []
   ends t =
       record {
@@ -81,24 +98,27 @@ module _ (clock limit : ℕ) where
 -- ---- the loop over a directory
 
 -- `left` of the entries are still in the line
-pub record Leaving (clock limit : ℕ) (es : List Entry) (left : ℕ) (t : Turn) : Type 0 where
+pub record Leaving (clock limit : ℕ) (es : List Entry) (left : ℕ) (t : Turn) (b : Bool) : Type 0 where
   pub count : left ≤ length es
   pub begun : t .round ≤ limit
   pub ran : length (rounds clock limit (reverse es)) ≡ ranFrom clock limit t (lineTo es left)
   pub went : length (gone clock limit (reverse es)) ≡ length es - left + wentFrom clock limit t (lineTo es left)
+  pub live : anyLive clock (gone clock limit (reverse es)) ≡ (b || liveFrom clock limit t (lineTo es left))
 
 module _ {clock limit : ℕ} {es : List Entry} where
-  pub leaving-none : {n : ℕ} → n ≡ length es → Leaving clock limit es n (record { round = 0; more = 0 })
+  pub leaving-none : {n : ℕ} → n ≡ length es → Leaving clock limit es n (record { round = 0; more = 0 }) false
   leaving-none {n} e =
       let w : limit - 0 ≡ limit = omega arith in
+      let z : 0 + length (gone clock limit (reverse es)) ≡ length (gone clock limit (reverse es)) = omega arith in
       record {
         count = omega arith;
         begun = omega arith;
         ran = rw (line-all es, e, deads-zero clock (lineTo es (length es)), w) (omega arith);
         went = rw (line-all es, e, deads-zero clock (lineTo es (length es)), w) (omega arith);
+        live = rw (e, sym (line-all es), deads-zero clock (reverse es), w, z) (ap (anyLive clock) (gone-first clock limit (reverse es)));
       }
 
-  module _ {left : ℕ} {t : Turn} (v : Leaving clock limit es left t) where
+  module _ {left : ℕ} {t : Turn} {b : Bool} (v : Leaving clock limit es left t b) where
     -- the last entry of those left
     abbrev next : Entry
     next = getD es (left - 1) none
@@ -110,8 +130,8 @@ module _ {clock limit : ℕ} {es : List Entry} where
     next-turn x y z = z ∙ ap (λ (b : Bool). nextTurn b t) (y ∙ ap (dead clock) x)
 
     -- it goes with its turn
-    pub leaving-more : {d : Bool} {e : Entry} {u : Turn} → 0 < left → limit ≤ 30 → e ≡ next → d ≡ dead clock e → u ≡ nextTurn d t → u .round ≤ limit → Leaving clock limit es (left - 1) u
-    leaving-more {u = u} h f x y z l =
+    pub leaving-more : {d : Bool} {e : Entry} {u : Turn} → 0 < left → limit ≤ 30 → e ≡ next → d ≡ dead clock e → u ≡ nextTurn d t → u .round ≤ limit → Leaving clock limit es (left - 1) u (b || not d)
+    leaving-more {d} {u = u} h f x y z l =
         let w : u ≡ nextTurn (dead clock next) t = next-turn x y z in
         let s : Steps clock limit t u next (lineTo es (left - 1)) = rw w (steps clock limit t next (lineTo es (left - 1)) f (rw w at l)) in
         record {
@@ -119,21 +139,23 @@ module _ {clock limit : ℕ} {es : List Entry} where
           begun = l;
           ran = v .ran ∙ ap (ranFrom clock limit t) (next-line h) ∙ s .ran;
           went = v .went ∙ omega (arith, v .count, ap (wentFrom clock limit t) (next-line h), s .went);
+          live = v .live ∙ ap (λ (q : Bool). b || q) (ap (liveFrom clock limit t) (next-line h) ∙ step-live clock limit s ∙ ap (λ (q : Bool). not q || liveFrom clock limit u (lineTo es (left - 1))) (sym (y ∙ ap (dead clock) x))) ∙ sym (or-assoc b (not d) (liveFrom clock limit u (lineTo es (left - 1))));
         }
 
-    leaves-all : {n : ℕ} {rest : List Entry} → n ≡ length es → lineTo es left ≡ rest → Ends clock limit t rest → Leaves clock limit (reverse es) (t .round) (n - left)
+    leaves-all : {n : ℕ} {rest : List Entry} → n ≡ length es → lineTo es left ≡ rest → Ends clock limit t rest → Leaves clock limit (reverse es) (t .round) (n - left) b
     leaves-all e x s =
         record {
           ran = sym (v .ran ∙ ap (ranFrom clock limit t) x ∙ s .ran);
           went = sym (v .went ∙ omega (arith, ap (wentFrom clock limit t) x, s .went));
+          live = sym (v .live ∙ ap (λ (q : Bool). b || q) (ap (liveFrom clock limit t) x ∙ end-live clock limit s) ∙ or-false b);
         }
 
     -- or it would begin a round too many
-    pub leaves-stop : {n : ℕ} {d : Bool} {e : Entry} {u : Turn} → n ≡ length es → 0 < left → e ≡ next → d ≡ dead clock e → u ≡ nextTurn d t → limit < u .round → Leaves clock limit (reverse es) (t .round) (n - left)
+    pub leaves-stop : {n : ℕ} {d : Bool} {e : Entry} {u : Turn} → n ≡ length es → 0 < left → e ≡ next → d ≡ dead clock e → u ≡ nextTurn d t → limit < u .round → Leaves clock limit (reverse es) (t .round) (n - left) b
     leaves-stop {u = u} e h x y z l =
         let w : u ≡ nextTurn (dead clock next) t = next-turn x y z in
         leaves-all e (next-line h) (stops clock limit t next (lineTo es (left - 1)) (v .begun) (rw w at l))
 
     -- or none is left
-    pub leaves-end : {n : ℕ} → n ≡ length es → left ≤ 0 → Leaves clock limit (reverse es) (t .round) (n - left)
+    pub leaves-end : {n : ℕ} → n ≡ length es → left ≤ 0 → Leaves clock limit (reverse es) (t .round) (n - left) b
     leaves-end e z = let w : left ≡ 0 = omega arith in leaves-all e (ap (lineTo es) w) (ends clock limit t)

@@ -124,43 +124,46 @@ fn mark_line(marks: &mut [u8], dir: &[u64], clock: u64)
     }
 }
 
-// How many rounds there are, and how many entries they take.
+// How many rounds there are, how many entries they take, and whether one of those is live.
 struct Rounds {
     ran: usize,
     gone: usize,
+    live: bool,
 }
 
 // The first `limit` rounds, or all of them if there are fewer. Only the entries that go are walked.
 fn rounds_of(dir: &[u64], clock: u64, limit: usize) -> Rounds
     requires { ⌜ Dir (now dir) ⌝ }
     requires { ⌜ limit ≤ 30 ⌝ }
-    ensures { λ r. ⌜ Leaves clock limit (reverse (entriesOf (now (dir .entry)))) (r .ran) (r .gone) ⌝ }
+    ensures { λ r. ⌜ Leaves clock limit (reverse (entriesOf (now (dir .entry)))) (r .ran) (r .gone) (r .live) ⌝ }
 {
     let n = directory::count(dir);
     let mut turn = Turn { round: 0, more: 0 };
     let mut left = n;
+    let mut live = false;
     while 0 < left {
-        let next = next_turn(
-            turn,
-            time::is_dead(directory::record_at(dir, left - 1), clock),
-        );
+        let dead = time::is_dead(directory::record_at(dir, left - 1), clock);
+        let next = next_turn(turn, dead);
         if limit < next.round as usize {
             break;
         }
         turn = next;
         left -= 1;
+        live = live | !dead;
     }
     Rounds {
         ran: turn.round as usize,
         gone: n - left,
+        live,
     }
 }
 
-// Where a new entry goes, after how many rounds, and how many entries those take.
+// Where a new entry goes, after how many rounds, how many entries those take, and whether one of them is live.
 pub struct Choice {
     pub fit: Fit,
     pub ran: usize,
     pub gone: usize,
+    pub live: bool,
 }
 
 // The place of fewest rounds, `most` at the most, and of lowest start; without one, all the rounds that may run.
@@ -179,5 +182,6 @@ pub fn choose(dir: &[u64], pool: &[u8], clock: u64, need: usize, most: usize) ->
         fit,
         ran: left.ran,
         gone: left.gone,
+        live: left.live,
     }
 }

@@ -32,3 +32,4 @@ pub mod Answers
 pub mod Buffers
 pub mod AuditLaws
 pub mod NumberLaws
+pub mod ForcedLaws

@@ -12,12 +12,12 @@ use Rattle.rules.specs.declared.Operation.the-variants.{Set, SafeSet}
 use Rattle.rules.specs.Layout.{need, encode, decode, flat, entriesOf, without, toFront, put, keyOf, numberBytes, numberAt, memoryOf, remove, removeOldest, moveToFront}
 use Rattle.rules.specs.Time.{dead, expiryOf, tooLate, timeLeft}
 use Rattle.rules.specs.LookUp.{same, keyIs, foundFrom, lookUp}
-use Rattle.rules.specs.Recency.{deads, after, gone, sweepCount, sweep}
+use Rattle.rules.specs.Recency.{deads, after, gone, sweepCount, sweep, anyLive}
 use Rattle.rules.specs.Place.{holds, held, freeRun, fitFrom, firstFree, run}
 use Rattle.rules.specs.Soundness.{every, any, rightLengths, valueFits, entrySound, noneShared, sound}
 use Rattle.rules.specs.Answer.{plain}
 use Rattle.rules.specs.Checks.{_then_, refuse, checkLengths, checkSound, checkClock, checkKey, checkKind, takesNil, checkNil, checkLifetime, clockChecks, keyChecks, storeChecks}
-use Rattle.rules.specs.Calls.{Result, call, ask, freshWork, freshCall, afterSweep, shown, getFound, getWork, getCall, deleteFound, entryFor, placeAt, rewriteAt, overwriteAt, searched, evicted, forcedBy, fitOutcome, placeFit, placedBy, placeAnew, storeOver, storeItem, mostRounds, admits, booleanByte, valueGiven, storeAdmitted, storeFound, storeWork, itemOf, storeCall, ttlFound, ttlCall}
+use Rattle.rules.specs.Calls.{Result, call, ask, freshWork, freshCall, afterSweep, shown, getFound, getWork, getCall, deleteFound, entryFor, placeAt, rewriteAt, overwriteAt, searched, evicted, isPlaced, forcedBy, fitOutcome, placeFit, placedBy, placeAnew, storeOver, storeItem, mostRounds, admits, booleanByte, valueGiven, storeAdmitted, storeFound, storeWork, itemOf, storeCall, ttlFound, ttlCall}
 
 -- ---- the memories
 
@@ -62,6 +62,10 @@ full7 = encode 26 (tare 0 3 ∷ tare 0 1 ∷ tare 0 2 ∷ tare 0 0 ∷ [])
 abbrev full8 : List ℕ
 full8 = encode 26 (tare 500 3 ∷ tare 500 2 ∷ tare 500 1 ∷ tare 0 0 ∷ [])
 
+-- request 3's: "a, b, c dead at cells 0, 1, 2, d live at 3, a longest unused"
+abbrev stale3 : List ℕ
+stale3 = encode 26 (tare 0 3 ∷ tare 500 2 ∷ tare 500 1 ∷ tare 500 0 ∷ [])
+
 abbrev fresh : Result
 fresh = freshCall (replicate 26 7) (replicate 128 7)
 
@@ -71,7 +75,7 @@ fresh = freshCall (replicate 26 7) (replicate 128 7)
 abbrev number : Operation → List ℕ → List ℕ → Result
 number op dir key = storeCall op dir cells 1000 key 3 (pos 9000) [] 0 0
 
--- a text of n bytes: 40 make two cells, 140 five
+-- a text of n bytes: 40 make two cells, 70 three, 140 five
 abbrev text : Operation → List ℕ → List ℕ → ℕ → Result
 text op dir key n = storeCall op dir cells 1000 key 4 (pos 0) (replicate n 120) 0 0
 
@@ -112,14 +116,16 @@ pub record Plates : Type 0 where
   pub p7 : (rounds (text Set full7 e 40) ≡ 3) × (start (text Set full7 e 40) ≡ 0) × (order (text Set full7 e 40) ≡ e ∷ d ∷ [])
   -- the sweep takes none; rounds 1, removed 3, d stays
   pub p8 : (sweepCount 1000 (memoryOf full8 cells) ≡ 0) × (rounds (number Set full8 e) ≡ 1) × (removed (number Set full8 e) ≡ 3) × (order (number Set full8 e) ≡ e ∷ d ∷ [])
-  -- five cells: 12, rounds 4, removed 4, no entries
-  pub p9 : (text Set full e 140 .answer ≡ record { rounds = 4; removed = 4; forced = true; stale = false; outcome = NoMemory }) × (order (text Set full e 140) ≡ [])
+  -- five cells: 12, rounds 4, removed 4, no entries; not forced, by request 3
+  pub p9 : (text Set full e 140 .answer ≡ record { rounds = 4; removed = 4; forced = false; stale = false; outcome = NoMemory }) × (order (text Set full e 140) ≡ [])
   -- safe_set e: 12, unchanged
   pub p10 : number SafeSet full e ≡ record { answer = plain NoMemory 0; dir = full; pool = cells }
   -- safe_set a, two cells: 12, and a is gone
   pub p11 : (text SafeSet full a 40 .answer ≡ plain NoMemory 0) × (order (text SafeSet full a 40) ≡ d ∷ c ∷ b ∷ [])
   -- b overwritten with equal length: start 1; order b, d, c, a
   pub p12 : (number Set full b .answer ≡ plain Done 0) × (start (number Set full b) ≡ 1) × (order (number Set full b) ≡ b ∷ d ∷ c ∷ a ∷ [])
+  -- request 3: "The sweep takes a and b, round 1 takes c, it is stored at 0, removed 3, and forced is not set"; where a live one goes, as in P5, it is
+  pub request3 : (text Set stale3 e 70 .answer ≡ record { rounds = 1; removed = 3; forced = false; stale = false; outcome = Done }) × (start (text Set stale3 e 70) ≡ 0) × (order (text Set stale3 e 70) ≡ e ∷ d ∷ []) × (number Set full e .answer .forced ≡ true)
 
 -- the replay example of 01: its two stores' and gets' answers, line by line
 pub record Example : Type 0 where
@@ -131,11 +137,11 @@ pub record Example : Type 0 where
   pub line5 : getCall (fresh .dir) (stored .pool) 1500 [] .answer ≡ plain KeyEmpty 0
 
 pub example : Example
-unfolding encode flat decode entriesOf without toFront put keyOf numberBytes numberAt memoryOf remove removeOldest moveToFront dead expiryOf tooLate timeLeft same keyIs foundFrom lookUp deads after gone sweepCount sweep holds held freeRun fitFrom firstFree run every any rightLengths valueFits entrySound noneShared sound _then_ refuse checkLengths checkSound checkClock checkKey checkKind takesNil checkNil checkLifetime clockChecks keyChecks storeChecks call ask freshWork freshCall afterSweep shown getFound getWork getCall deleteFound entryFor placeAt rewriteAt overwriteAt searched evicted forcedBy fitOutcome placeFit placedBy placeAnew storeOver storeItem mostRounds admits booleanByte valueGiven storeAdmitted storeFound storeWork itemOf storeCall ttlFound ttlCall
+unfolding encode flat decode entriesOf without toFront put keyOf numberBytes numberAt memoryOf remove removeOldest moveToFront dead expiryOf tooLate timeLeft same keyIs foundFrom lookUp deads after gone sweepCount sweep holds held freeRun fitFrom firstFree run every any rightLengths valueFits entrySound noneShared sound _then_ refuse checkLengths checkSound checkClock checkKey checkKind takesNil checkNil checkLifetime clockChecks keyChecks storeChecks call ask freshWork freshCall afterSweep shown getFound getWork getCall deleteFound entryFor placeAt rewriteAt overwriteAt searched evicted anyLive isPlaced forcedBy fitOutcome placeFit placedBy placeAnew storeOver storeItem mostRounds admits booleanByte valueGiven storeAdmitted storeFound storeWork itemOf storeCall ttlFound ttlCall
 example = record { line1 = refl; line2 = refl; line3 = refl; line4 = refl; line5 = refl }
 
 pub plates : Plates
-unfolding encode flat decode entriesOf without toFront put keyOf numberBytes numberAt memoryOf remove removeOldest moveToFront dead expiryOf tooLate timeLeft same keyIs foundFrom lookUp deads after gone sweepCount sweep holds held freeRun fitFrom firstFree run every any rightLengths valueFits entrySound noneShared sound _then_ refuse checkLengths checkSound checkClock checkKey checkKind takesNil checkNil checkLifetime clockChecks keyChecks storeChecks call ask freshWork freshCall afterSweep shown getFound getWork getCall deleteFound entryFor placeAt rewriteAt overwriteAt searched evicted forcedBy fitOutcome placeFit placedBy placeAnew storeOver storeItem mostRounds admits booleanByte valueGiven storeAdmitted storeFound storeWork itemOf storeCall ttlFound ttlCall
+unfolding encode flat decode entriesOf without toFront put keyOf numberBytes numberAt memoryOf remove removeOldest moveToFront dead expiryOf tooLate timeLeft same keyIs foundFrom lookUp deads after gone sweepCount sweep holds held freeRun fitFrom firstFree run every any rightLengths valueFits entrySound noneShared sound _then_ refuse checkLengths checkSound checkClock checkKey checkKind takesNil checkNil checkLifetime clockChecks keyChecks storeChecks call ask freshWork freshCall afterSweep shown getFound getWork getCall deleteFound entryFor placeAt rewriteAt overwriteAt searched evicted anyLive isPlaced forcedBy fitOutcome placeFit placedBy placeAnew storeOver storeItem mostRounds admits booleanByte valueGiven storeAdmitted storeFound storeWork itemOf storeCall ttlFound ttlCall
 plates =
     record {
       p1 = refl;
@@ -150,4 +156,5 @@ plates =
       p10 = refl;
       p11 = (refl, refl);
       p12 = (refl, refl, refl);
+      request3 = (refl, refl, refl, refl);
     }

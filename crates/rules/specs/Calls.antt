@@ -1,6 +1,6 @@
 -- Chapter "The calls": every call of the base, in the order of the paper. The work of a call is defined on a memory that its checks have passed; the call itself (name ending in Call) is defined for any words, bytes and arguments.
 use mathlib.Core.Path.{_≡_}
-use mathlib.Core.Bool.{Bool, true, false, not, cond}
+use mathlib.Core.Bool.{Bool, true, false, not, cond, _&&_}
 use mathlib.Core.List.{List, [], _∷_, _++_, map}
 use Prim.Native.Nat.{ℕ, zero, suc, _+_, _-_, _*_, _/_, _^_, min}
 use lib.Dec.{eqb, leb, ltb}
@@ -25,7 +25,7 @@ use Rattle.rules.specs.declared.Initial.the-variants.{Given, Absent}
 use Rattle.rules.specs.Layout.{cellsOf, need, encode, replaceAt, toFront, put, part, valueOffset, valueBytes, numberBytes, numberAt, Memory, memoryOf, entryIn, remove, removeOldest, moveToFront}
 use Rattle.rules.specs.Time.{dead, expiryOf, timeLeft, withExpiry}
 use Rattle.rules.specs.LookUp.{lookUp}
-use Rattle.rules.specs.Recency.{line, sweepCount, sweep, gone}
+use Rattle.rules.specs.Recency.{line, sweepCount, sweep, gone, anyLive}
 use Rattle.rules.specs.Place.{Placed, run}
 use Rattle.rules.specs.Answer.{plain, marked, answerWords}
 use Rattle.rules.specs.Checks.{checkLengths, checkSound, clockChecks, keyChecks, expireChecks, storeChecks, incrChecks}
@@ -182,9 +182,14 @@ searched most clock item m = run clock (cellsOf (m .pool)) (needFor item) most (
 unfoldable pub evicted : ℕ → Placed → Memory → List Entry
 evicted clock p m = gone clock (p .ran) (line m)
 
--- "Forced is set if a round was run, also with 12"
+-- "the call answers 0": there is a place
+unfoldable pub isPlaced : Fit → Bool
+isPlaced (Start start) = true
+isPlaced Nowhere = false
+
+-- request 3 of document 02: forced "is set exactly if the call answers 0 and at least one entry taken by the rounds was live at the call's clock"
 unfoldable pub forcedBy : ℕ → Placed → Memory → Bool
-forcedBy clock p m = ltb 0 (p .ran)
+forcedBy clock p m = isPlaced (p .fit) && anyLive clock (evicted clock p m)
 
 -- done, or "no memory"
 unfoldable pub fitOutcome : Outcome → Fit → Outcome

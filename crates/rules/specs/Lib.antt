@@ -9,3 +9,4 @@ pub mod Checks
 pub mod Calls
 pub mod LeastLoss
 pub mod Replay
+pub mod Forced

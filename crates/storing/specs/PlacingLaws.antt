@@ -1,10 +1,9 @@
 -- Placing anew, step by step: the choice, the rounds out, and the entry written.
 use mathlib.Core.Path.{_≡_, sym, ap, subst, _∙_}
-use mathlib.Core.Bool.{true, false}
+use mathlib.Core.Bool.{true, false, _&&_}
 use mathlib.Core.List.{List, _∷_}
 use Prim.Native.Nat.{ℕ, _+_, _*_, _≤_}
 use native.Mathlib.Omega.{arith}
-use lib.Dec.{ltb}
 use lib.ListN.{length, length-append, length-reverse}
 use Rattle.rules.specs.declared.Entry.{Entry}
 use Rattle.rules.specs.declared.Answer.{Answer}
@@ -16,7 +15,7 @@ use Rattle.rules.specs.Layout.{cellsOf, encode, entriesOf, put, Memory, memoryO
 use Rattle.rules.specs.Recency.{line, left, gone}
 use Rattle.rules.specs.Place.{held, Placed, run}
 use Rattle.rules.specs.Soundness.{sound}
-use Rattle.rules.specs.Calls.{Holds, Work, Does, Item, entryFor, needFor, placeAt, searched, evicted, forcedBy, fitOutcome, placeFit, placedBy, placeAnew}
+use Rattle.rules.specs.Calls.{Holds, Work, Does, Item, entryFor, needFor, placeAt, searched, evicted, isPlaced, forcedBy, fitOutcome, placeFit, placedBy, placeAnew}
 use Rattle.laws.specs.LayoutLaws.{put-then}
 use Rattle.laws.specs.RecencyLaws.{gone-left}
 use Rattle.laws.specs.PlaceLaws.{RanBy, run-ran}
@@ -112,20 +111,20 @@ module _ (dir pool : List ℕ) (t : sound dir pool ≡ true) (clock most : ℕ) 
 
     -- the answer of a choice, with a fit of its own
     abbrev answered : Outcome → ℕ → Fit → Answer
-    answered told swept f = record { rounds = r .ran; removed = swept + r .gone; forced = ltb 0 (r .ran); stale = false; outcome = fitOutcome told f }
+    answered told swept f = record { rounds = r .ran; removed = swept + r .gone; forced = isPlaced f && r .live; stale = false; outcome = fitOutcome told f }
 
     work-is : (told : Outcome) (swept : ℕ) (f : Fit) → r .fit ≡ f → record { answer = answered told swept f; memory = placeFit item f (removeOldest (r .gone) m) } ≡ placeAnew most clock item told swept m
     unfolding placeAnew searched placedBy evicted forcedBy memoryOf
-    work-is told swept f e = rw (sym e, c .fit, c .ran, c .gone)
+    work-is told swept f e = rw (sym e, c .fit, c .ran, c .gone, c .live)
 
     -- no place: only the rounds are gone
-    pub refused-does : (told : Outcome) (swept : ℕ) (a : Answer) → r .fit ≡ Nowhere → a ≡ record { rounds = r .ran; removed = swept + r .gone; forced = ltb 0 (r .ran); stale = false; outcome = NoMemory } → Does (placeAnew most clock item told swept m) (length dir) a dir₁ pool₁
-    unfolding fitOutcome placeFit
+    pub refused-does : (told : Outcome) (swept : ℕ) (a : Answer) → r .fit ≡ Nowhere → a ≡ record { rounds = r .ran; removed = swept + r .gone; forced = false; stale = false; outcome = NoMemory } → Does (placeAnew most clock item told swept m) (length dir) a dir₁ pool₁
+    unfolding fitOutcome placeFit isPlaced
     refused-does told swept a e q = subst (λ (w : Work). Does w (length dir) a dir₁ pool₁) (work-is told swept Nowhere e) (record { answer = q; memory = h })
 
     -- a place: the entry is stored there too
-    pub placed-does : (told : Outcome) (swept : ℕ) (a : Answer) (start : ℕ) {dir₂ pool₂ : List ℕ} → r .fit ≡ Start start → Holds (length dir₁) (placeAt item start (memoryOf dir₁ pool₁)) dir₂ pool₂ → a ≡ record { rounds = r .ran; removed = swept + r .gone; forced = ltb 0 (r .ran); stale = false; outcome = told } → Does (placeAnew most clock item told swept m) (length dir) a dir₂ pool₂
-    unfolding fitOutcome placeFit
+    pub placed-does : (told : Outcome) (swept : ℕ) (a : Answer) (start : ℕ) {dir₂ pool₂ : List ℕ} → r .fit ≡ Start start → Holds (length dir₁) (placeAt item start (memoryOf dir₁ pool₁)) dir₂ pool₂ → a ≡ record { rounds = r .ran; removed = swept + r .gone; forced = r .live; stale = false; outcome = told } → Does (placeAnew most clock item told swept m) (length dir) a dir₂ pool₂
+    unfolding fitOutcome placeFit isPlaced
     placed-does told swept a start {dir₂} {pool₂} e k q =
         subst (λ (w : Work). Does w (length dir) a dir₂ pool₂) (work-is told swept (Start start) e)
         (record {

@@ -89,7 +89,7 @@ fn place_anew(
         return Answer {
             rounds: choice.ran,
             removed,
-            forced: 0 < choice.ran,
+            forced: false,
             stale: false,
             outcome: Outcome::NoMemory,
         };
@@ -99,7 +99,7 @@ fn place_anew(
     Answer {
         rounds: choice.ran, // those that went
         removed,
-        forced: 0 < choice.ran, // a round ran
+        forced: choice.live, // a live entry went
         stale: false,
         outcome: told,
     }

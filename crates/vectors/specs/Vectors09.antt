@@ -129,7 +129,7 @@ unfolding fieldsOf answerWords
 w029 = refl
 
 -- the words of an answer
-pub w030 : answerWords (record { rounds = 2; removed = 2; forced = true; stale = false; outcome = NoMemory }) ≡ (12 ∷ 2 ∷ 2 ∷ 1 ∷ replicate 6 0)
+pub w030 : answerWords (record { rounds = 2; removed = 2; forced = false; stale = false; outcome = NoMemory }) ≡ (12 ∷ 2 ∷ 2 ∷ replicate 7 0)
 unfolding fieldsOf answerWords
 w030 = refl
 
@@ -144,7 +144,7 @@ unfolding fieldsOf answerWords
 w032 = refl
 
 -- the words of an answer
-pub w033 : answerWords (record { rounds = 1; removed = 2; forced = true; stale = false; outcome = NoMemory }) ≡ (12 ∷ 1 ∷ 2 ∷ 1 ∷ replicate 6 0)
+pub w033 : answerWords (record { rounds = 1; removed = 2; forced = false; stale = false; outcome = NoMemory }) ≡ (12 ∷ 1 ∷ 2 ∷ replicate 7 0)
 unfolding fieldsOf answerWords
 w033 = refl
 
@@ -154,7 +154,7 @@ unfolding fieldsOf answerWords
 w034 = refl
 
 -- the words of an answer
-pub w035 : answerWords (record { rounds = 1; removed = 1; forced = true; stale = false; outcome = NoMemory }) ≡ (12 ∷ 1 ∷ 1 ∷ 1 ∷ replicate 6 0)
+pub w035 : answerWords (record { rounds = 1; removed = 1; forced = false; stale = false; outcome = NoMemory }) ≡ (12 ∷ 1 ∷ 1 ∷ replicate 7 0)
 unfolding fieldsOf answerWords
 w035 = refl
 
@@ -194,17 +194,17 @@ unfolding fieldsOf answerWords
 w042 = refl
 
 -- the words of an answer
-pub w043 : answerWords (record { rounds = 2; removed = 3; forced = true; stale = false; outcome = NoMemory }) ≡ (12 ∷ 2 ∷ 3 ∷ 1 ∷ replicate 6 0)
+pub w043 : answerWords (record { rounds = 2; removed = 3; forced = false; stale = false; outcome = NoMemory }) ≡ (12 ∷ 2 ∷ 3 ∷ replicate 7 0)
 unfolding fieldsOf answerWords
 w043 = refl
 
 -- the words of an answer
-pub w044 : answerWords (record { rounds = 1; removed = 3; forced = true; stale = false; outcome = NoMemory }) ≡ (12 ∷ 1 ∷ 3 ∷ 1 ∷ replicate 6 0)
+pub w044 : answerWords (record { rounds = 1; removed = 3; forced = false; stale = false; outcome = NoMemory }) ≡ (12 ∷ 1 ∷ 3 ∷ replicate 7 0)
 unfolding fieldsOf answerWords
 w044 = refl
 
 -- the words of an answer
-pub w045 : answerWords (record { rounds = 2; removed = 4; forced = true; stale = false; outcome = NoMemory }) ≡ (12 ∷ 2 ∷ 4 ∷ 1 ∷ replicate 6 0)
+pub w045 : answerWords (record { rounds = 2; removed = 4; forced = false; stale = false; outcome = NoMemory }) ≡ (12 ∷ 2 ∷ 4 ∷ replicate 7 0)
 unfolding fieldsOf answerWords
 w045 = refl
 
@@ -224,12 +224,12 @@ unfolding fieldsOf answerWords
 w048 = refl
 
 -- the words of an answer
-pub w049 : answerWords (record { rounds = 30; removed = 30; forced = true; stale = false; outcome = NoMemory }) ≡ (12 ∷ 30 ∷ 30 ∷ 1 ∷ replicate 6 0)
+pub w049 : answerWords (record { rounds = 30; removed = 30; forced = false; stale = false; outcome = NoMemory }) ≡ (12 ∷ 30 ∷ 30 ∷ replicate 7 0)
 unfolding fieldsOf answerWords
 w049 = refl
 
 -- the words of an answer
-pub w050 : answerWords (record { rounds = 3; removed = 3; forced = true; stale = false; outcome = NoMemory }) ≡ (12 ∷ 3 ∷ 3 ∷ 1 ∷ replicate 6 0)
+pub w050 : answerWords (record { rounds = 3; removed = 3; forced = false; stale = false; outcome = NoMemory }) ≡ (12 ∷ 3 ∷ 3 ∷ replicate 7 0)
 unfolding fieldsOf answerWords
 w050 = refl
 
@@ -259,51 +259,51 @@ unfolding fieldsOf answerWords
 w055 = refl
 
 -- the words of an answer
-pub w056 : answerWords (record { rounds = 3; removed = 4; forced = true; stale = false; outcome = NoMemory }) ≡ (12 ∷ 3 ∷ 4 ∷ 1 ∷ replicate 6 0)
+pub w056 : answerWords (record { rounds = 1; removed = 4; forced = false; stale = false; outcome = Done }) ≡ (0 ∷ 1 ∷ 4 ∷ replicate 7 0)
 unfolding fieldsOf answerWords
 w056 = refl
 
 -- the words of an answer
-pub w057 : answerWords (record { rounds = 3; removed = 3; forced = true; stale = false; outcome = Done }) ≡ (0 ∷ 3 ∷ 3 ∷ 1 ∷ replicate 6 0)
+pub w057 : answerWords (record { rounds = 3; removed = 4; forced = false; stale = false; outcome = NoMemory }) ≡ (12 ∷ 3 ∷ 4 ∷ replicate 7 0)
 unfolding fieldsOf answerWords
 w057 = refl
 
 -- the words of an answer
-pub w058 : answerWords (record { rounds = 1; removed = 1; forced = true; stale = false; outcome = (Sum (pos 6833993528370921579)) }) ≡ (0 ∷ 1 ∷ 1 ∷ 1 ∷ 0 ∷ 3 ∷ 0 ∷ 6833993528370921579 ∷ 0 ∷ 0 ∷ [])
+pub w058 : answerWords (record { rounds = 1; removed = 1; forced = false; stale = false; outcome = Done }) ≡ (0 ∷ 1 ∷ 1 ∷ replicate 7 0)
 unfolding fieldsOf answerWords
 w058 = refl
 
 -- the words of an answer
-pub w059 : answerWords (plain (Sum (negsuc 6326868570466479562)) 0) ≡ (replicate 5 0 ++ 3 ∷ 0 ∷ 12119875503243072053 ∷ 0 ∷ 0 ∷ [])
+pub w059 : answerWords (record { rounds = 3; removed = 3; forced = true; stale = false; outcome = Done }) ≡ (0 ∷ 3 ∷ 3 ∷ 1 ∷ replicate 6 0)
 unfolding fieldsOf answerWords
 w059 = refl
 
 -- the words of an answer
-pub w060 : answerWords (plain (Sum (negsuc 8629003742451920218)) 0) ≡ (replicate 5 0 ++ 3 ∷ 0 ∷ 9817740331257631397 ∷ 0 ∷ 0 ∷ [])
+pub w060 : answerWords (record { rounds = 1; removed = 1; forced = true; stale = false; outcome = (Sum (pos 6833993528370921579)) }) ≡ (0 ∷ 1 ∷ 1 ∷ 1 ∷ 0 ∷ 3 ∷ 0 ∷ 6833993528370921579 ∷ 0 ∷ 0 ∷ [])
 unfolding fieldsOf answerWords
 w060 = refl
 
 -- the words of an answer
-pub w061 : answerWords (record { rounds = 1; removed = 1; forced = true; stale = false; outcome = (Sum (negsuc 101732)) }) ≡ (0 ∷ 1 ∷ 1 ∷ 1 ∷ 0 ∷ 3 ∷ 0 ∷ 18446744073709449883 ∷ 0 ∷ 0 ∷ [])
+pub w061 : answerWords (plain (Sum (negsuc 6326868570466479562)) 0) ≡ (replicate 5 0 ++ 3 ∷ 0 ∷ 12119875503243072053 ∷ 0 ∷ 0 ∷ [])
 unfolding fieldsOf answerWords
 w061 = refl
 
 -- the words of an answer
-pub w062 : answerWords (plain SumTooLarge 1) ≡ (11 ∷ 0 ∷ 1 ∷ replicate 7 0)
+pub w062 : answerWords (plain (Sum (negsuc 8629003742451920218)) 0) ≡ (replicate 5 0 ++ 3 ∷ 0 ∷ 9817740331257631397 ∷ 0 ∷ 0 ∷ [])
 unfolding fieldsOf answerWords
 w062 = refl
 
 -- the words of an answer
-pub w063 : answerWords (plain NotNumber 0) ≡ (10 ∷ replicate 9 0)
+pub w063 : answerWords (record { rounds = 1; removed = 1; forced = true; stale = false; outcome = (Sum (negsuc 101732)) }) ≡ (0 ∷ 1 ∷ 1 ∷ 1 ∷ 0 ∷ 3 ∷ 0 ∷ 18446744073709449883 ∷ 0 ∷ 0 ∷ [])
 unfolding fieldsOf answerWords
 w063 = refl
 
 -- the words of an answer
-pub w064 : answerWords (plain (Sum (negsuc 9223372036854712840)) 0) ≡ (replicate 5 0 ++ 3 ∷ 0 ∷ 9223372036854838775 ∷ 0 ∷ 0 ∷ [])
+pub w064 : answerWords (plain SumTooLarge 1) ≡ (11 ∷ 0 ∷ 1 ∷ replicate 7 0)
 unfolding fieldsOf answerWords
 w064 = refl
 
 -- the words of an answer
-pub w065 : answerWords (plain (Sum (pos 74197)) 0) ≡ (replicate 5 0 ++ 3 ∷ 0 ∷ 74197 ∷ 0 ∷ 0 ∷ [])
+pub w065 : answerWords (plain NotNumber 0) ≡ (10 ∷ replicate 9 0)
 unfolding fieldsOf answerWords
 w065 = refl

@@ -79,15 +79,23 @@ fn expected(cells: usize, before: &[Entry], clock: u64, new: &New, safe: bool) -
         key: new.key.into(),
         value: new.value.into(),
     };
-    let finish = |rounds: usize, removed: usize, outcome: u8, line: Vec<Entry>| {
-        let answer = Answer { outcome, ..stored(rounds as u64, (swept + removed) as u64) };
+    // `removed` entries leave at the long-unused end; the new one, if it is stored, is the most recently used
+    let finish = |rounds: usize, removed: usize, new: Option<Entry>, mut line: Vec<Entry>| {
+        let taken: Vec<Entry> = line.drain(..removed).collect();
+        let answer = Answer {
+            outcome: if new.is_some() { 0 } else { 12 },
+            rounds: rounds as u64,
+            removed: (swept + removed) as u64,
+            forced: new.is_some() && taken.iter().any(|entry| !entry.dead(clock)),
+            ..DONE
+        };
+        line.extend(new);
         (answer, line.into_iter().rev().collect())
     };
     if let Some(own) = line.iter().rposition(|entry| entry.key == new.key) {
         let old = line.remove(own);
         if old.value.len() == new.value.len() {
-            line.push(entry(old.record[3] as usize));
-            return finish(0, 0, 0, line);
+            return finish(0, 0, Some(entry(old.record[3] as usize)), line);
         }
     }
     let rounds = rounds_of(&line, clock);
@@ -97,16 +105,11 @@ fn expected(cells: usize, before: &[Entry], clock: u64, new: &New, safe: bool) -
     let best = places.map(|start| (cost(&line, &rounds, start, need), start)).min();
     match best {
         Some((cost, start)) if cost <= limit => {
-            let removed: usize = rounds[..cost].iter().sum();
-            line.drain(..removed);
-            line.push(entry(start));
-            finish(cost, removed, 0, line)
+            finish(cost, rounds[..cost].iter().sum(), Some(entry(start)), line)
         }
         _ => {
             let gone = rounds.len().min(limit);
-            let removed: usize = rounds[..gone].iter().sum();
-            line.drain(..removed);
-            finish(gone, removed, 12, line)
+            finish(gone, rounds[..gone].iter().sum(), None, line)
         }
     }
 }

@@ -5,6 +5,8 @@ use second::{need, Answer};
 
 /// Two cells: 1 byte of key and 32 of text.
 const TWO_CELLS: Value = words(&[b'x'; 32]);
+/// Three cells: 1 byte of key and 64 of text.
+const THREE_CELLS: Value = words(&[b'x'; 64]);
 /// Five cells: 1 byte of key and 128 of text.
 const FIVE_CELLS: Value = words(&[b'x'; 128]);
 
@@ -85,6 +87,17 @@ fn p9_no_memory_after_all_rounds() {
     assert_eq!(yard.set(1000, "e", FIVE_CELLS), no_memory(4, 4));
     assert_eq!(yard.dir, Yard::fresh(4).dir);
     assert_eq!(yard.pool, pool);
+}
+
+/// The example of request 3: the rounds take dead entries alone.
+#[test]
+fn not_forced_where_only_dead_ones_go() {
+    let dead = |hand: Hand| hand.expiry(500);
+    let mut yard =
+        Yard::with(4, &[number("d", 3, 4), dead(number("c", 2, 3)), dead(number("b", 1, 2)), dead(number("a", 0, 1))]);
+    assert_eq!(yard.set(1000, "e", THREE_CELLS), Answer { forced: false, ..stored(1, 3) });
+    assert_eq!(yard.record(0)[3], 0);
+    assert_eq!(yard.order(), "e d");
 }
 
 #[test]

@@ -117,14 +117,14 @@ pub fn refused(outcome: u8, removed: u64) -> Answer {
     Answer { outcome, removed, ..DONE }
 }
 
-/// What a store answers when it is done.
+/// What a store answers when it is done; if rounds were run, they took a live entry.
 pub fn stored(rounds: u64, removed: u64) -> Answer {
     Answer { rounds, removed, forced: rounds > 0, ..DONE }
 }
 
-/// What a store answers when it finds no memory.
+/// What a store answers when it finds no memory, which is never forced.
 pub fn no_memory(rounds: u64, removed: u64) -> Answer {
-    Answer { outcome: 12, ..stored(rounds, removed) }
+    Answer { outcome: 12, rounds, removed, ..DONE }
 }
 
 impl Yard {

@@ -44,9 +44,20 @@ fn p5_to_p8_rounds_make_a_place() {
 }
 
 #[test]
+fn not_forced_where_only_dead_ones_go() {
+    let mut yard = fresh();
+    for (key, lifetime) in [(b"a", 500), (b"b", 500), (b"c", 500), (b"d", 0)] {
+        assert_eq!(yard.set(1000, key, Value::Number(1), lifetime, 0), Ok(PLAIN));
+    }
+    let stored = Stored { rounds: 1, removed: 3, forced: false };
+    assert_eq!(yard.set(1500, b"e", Value::Text(&text_for(3)), 0, 0), Ok(stored));
+    assert_eq!((order(&yard, 1500).as_str(), start_of_first(&yard)), ("ed", Some(&0)));
+}
+
+#[test]
 fn p9_to_p11_a_refused_store_keeps_no_old_tare() {
     let mut yard = full(0);
-    let refused = Refused { refusal: Refusal::NoMemory, rounds: 4, removed: 4, forced: true };
+    let refused = Refused { refusal: Refusal::NoMemory, rounds: 4, removed: 4 };
     assert_eq!(yard.set(1000, b"e", Value::Text(&text_for(5)), 0, 0), Err(refused));
     assert_eq!(order(&yard, 1000), "");
 

@@ -7,10 +7,10 @@ use Rattle.eviction.proofs.rounds_of.Statement.{statement}
 use Rattle.eviction.proofs.rounds_of.Tie as tie
 
 abbrev Inv-loop : tie.InvT-loop
-Inv-loop dir clock limit n turn₀ left₀ turn left = Leaving clock limit (entriesOf dir) left turn
+Inv-loop dir clock limit n turn₀ left₀ live₀ turn left live = Leaving clock limit (entriesOf dir) left turn live
 
 abbrev μ-loop : tie.MeasureT-loop
-μ-loop dir clock limit n turn₀ left₀ turn left = left
+μ-loop dir clock limit n turn₀ left₀ live₀ turn left live = left
 
 count-requires : tie.Need-count-requires Inv-loop μ-loop
 count-requires c κs = c .before .pre .0
@@ -42,11 +42,11 @@ loop-less c = omega arith
 loop-again : tie.Need-loop-again Inv-loop μ-loop
 loop-again c = leaving-more (c .before .before .before .before .before .before .loop .inv) (omega arith) (c .before .before .before .before .before .before .before .before .before .pre .1) (c .before .before .before .before .record-at .ensures) (c .before .before .before .is-dead .ensures) (c .before .before .next-turn .ensures) (c .if1 .left)
 
-cast-t11 : tie.Need-cast-t11 Inv-loop μ-loop
-cast-t11 c = omega arith
+cast-t13 : tie.Need-cast-t13 Inv-loop μ-loop
+cast-t13 c = omega arith
 
-sub-t12 : tie.Need-sub-t12 Inv-loop μ-loop
-sub-t12 c = omega (arith, c .before .before .loop .inv .count, c .before .before .before .count .ensures)
+sub-t14 : tie.Need-sub-t14 Inv-loop μ-loop
+sub-t14 c = omega (arith, c .before .before .loop .inv .count, c .before .before .before .count .ensures)
 
 returns : tie.Need-returns Inv-loop μ-loop
 returns c = ⊎-elim (λ w. leaves-end (c .before .before .loop .inv) (c .before .before .before .count .ensures) (omega arith)) (λ w. leaves-stop (c .before .before .loop .inv) (c .before .before .before .count .ensures) (omega arith) (w .1 .ensures) (w .2 .ensures) (w .3 .ensures) (w .5 .taken)) (c .before .loop-test .came)
@@ -67,6 +67,6 @@ rounds-of-spec =
     sub-left
     loop-less
     loop-again
-    cast-t11
-    sub-t12
+    cast-t13
+    sub-t14
     returns)

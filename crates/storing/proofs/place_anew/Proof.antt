@@ -32,7 +32,7 @@ same-length-2 : tie.Need-same-length-2
 same-length-2 c = search needs
 
 returns : tie.Need-returns
-returns c = refused-does _ _ (c .before .before .before .before .before .before .before .before .before .before .before .before .before .before .before .before .before .before .before .before .pre .0) _ _ _ _ (chosen-for (c .before .before .before .before .before .before .before .before .before .before .before .before .before .before .before .need .ensures) (c .before .before .before .before .before .before .before .before .before .before .before .before .choose .ensures)) (c .before .before .before .before .before .before .before .before .before .remove-oldest .ensures) _ _ _ (c .before .enum-told .given .1) refl
+returns c = refused-does _ _ (c .before .before .before .before .before .before .before .before .before .before .before .before .before .before .before .before .before .before .before .pre .0) _ _ _ _ (chosen-for (c .before .before .before .before .before .before .before .before .before .before .before .before .before .before .need .ensures) (c .before .before .before .before .before .before .before .before .before .before .before .choose .ensures)) (c .before .before .before .before .before .before .before .before .remove-oldest .ensures) _ _ _ (c .enum-told .given .1) refl
 
 place-at-requires : tie.Need-place-at-requires
 place-at-requires c κs = let k = chosen-for (c .before .before .before .before .before .before .before .before .before .before .before .before .before .before .before .before .before .need .ensures) (c .before .before .before .before .before .before .before .before .before .before .before .before .before .before .choose .ensures) in
@@ -46,7 +46,7 @@ same-length-4 : tie.Need-same-length-4
 same-length-4 c = search needs
 
 returns-2 : tie.Need-returns-2
-returns-2 c = placed-does _ _ (c .before .before .before .before .before .before .before .before .before .before .before .before .before .before .before .before .before .before .before .before .before .before .before .before .before .before .before .before .pre .0) _ _ _ _ (chosen-for (c .before .before .before .before .before .before .before .before .before .before .before .before .before .before .before .before .before .before .before .before .before .before .before .need .ensures) (c .before .before .before .before .before .before .before .before .before .before .before .before .before .before .before .before .before .before .before .before .choose .ensures)) (c .before .before .before .before .before .before .before .before .before .before .before .before .before .before .before .before .before .remove-oldest .ensures) _ _ _ _ (c .before .before .before .before .before .before .before .before .before .fit .given .1) (c .before .before .before .before .before .place-at .ensures) refl
+returns-2 c = placed-does _ _ (c .before .before .before .before .before .before .before .before .before .before .before .before .before .before .before .before .before .before .before .before .before .before .before .before .before .before .before .pre .0) _ _ _ _ (chosen-for (c .before .before .before .before .before .before .before .before .before .before .before .before .before .before .before .before .before .before .before .before .before .before .need .ensures) (c .before .before .before .before .before .before .before .before .before .before .before .before .before .before .before .before .before .before .before .choose .ensures)) (c .before .before .before .before .before .before .before .before .before .before .before .before .before .before .before .before .remove-oldest .ensures) _ _ _ _ (c .before .before .before .before .before .before .before .before .fit .given .1) (c .before .before .before .before .place-at .ensures) refl
 
 pub place-anew-spec : {M : Type 1} → statement M
 place-anew-spec =
