@@ -1,9 +1,9 @@
 //! The independent second program of the shared dictionary.
 //!
 //! A dictionary from keys to values, with use order, expiry and user flags, in two lent buffers: the directory
-//! (`dir`, words of 64 bits) and the pool (`pool`, bytes). It is written from document 01 alone, round by round, so
-//! that it can be read against that page: the sentence of 01 that a piece of code follows is quoted beside it. Where
-//! 01 leaves a point open, the code follows the list of open points and says so as "Point 18", say.
+//! (`dir`, words of 64 bits) and the pool (`pool`, bytes). It is written from documents 01 and 02 alone, round by
+//! round, so that it can be read against them: the sentence that a piece of code follows is quoted beside it. Where
+//! they leave a point open, the code follows the list of open points and says so as "Point 18", say.
 //!
 //! | Module | Holds |
 //! |---|---|
