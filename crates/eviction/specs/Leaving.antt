@@ -32,8 +32,8 @@ module _ (clock limit : ℕ) where
   wentFrom t es = deads clock (t .more) es + length (gone clock (limit - t .round) (drop (deads clock (t .more) es) es))
 
   -- those that are left to count stand first
-  abbrev liveFrom : Turn → List Entry → Bool
-  liveFrom t es = anyLive clock (take (wentFrom t es) es)
+  abbrev anyLiveFrom : Turn → List Entry → Bool
+  anyLiveFrom t es = anyLive clock (take (wentFrom t es) es)
 
   -- from an entry to the next, one more has gone
   record Steps (t u : Turn) (e : Entry) (es : List Entry) : Type 0 where
@@ -77,11 +77,11 @@ module _ (clock limit : ℕ) where
       begins : Begins clock (t .round) (t .more) e es → Ends t (e ∷ es)
       begins b = let w : limit - t .round ≡ 0 = omega (arith, b .round) in record { ran = rw (b .none, w) (omega arith); went = rw (b .none, w) }
 
-  step-live : {t u : Turn} {e : Entry} {es : List Entry} → Steps t u e es → liveFrom t (e ∷ es) ≡ (not (dead clock e) || liveFrom u es)
+  step-live : {t u : Turn} {e : Entry} {es : List Entry} → Steps t u e es → anyLiveFrom t (e ∷ es) ≡ (not (dead clock e) || anyLiveFrom u es)
   unfolding anyLive
   step-live s = rw (s .went)
 
-  end-live : {t : Turn} {es : List Entry} → Ends t es → liveFrom t es ≡ false
+  end-live : {t : Turn} {es : List Entry} → Ends t es → anyLiveFrom t es ≡ false
   unfolding anyLive
   end-live s = rw (s .went)
 
@@ -103,7 +103,7 @@ pub record Leaving (clock limit : ℕ) (es : List Entry) (left : ℕ) (t : Turn)
   pub begun : t .round ≤ limit
   pub ran : length (rounds clock limit (reverse es)) ≡ ranFrom clock limit t (lineTo es left)
   pub went : length (gone clock limit (reverse es)) ≡ length es - left + wentFrom clock limit t (lineTo es left)
-  pub live : anyLive clock (gone clock limit (reverse es)) ≡ (b || liveFrom clock limit t (lineTo es left))
+  pub live : anyLive clock (gone clock limit (reverse es)) ≡ (b || anyLiveFrom clock limit t (lineTo es left))
 
 module _ {clock limit : ℕ} {es : List Entry} where
   pub leaving-none : {n : ℕ} → n ≡ length es → Leaving clock limit es n (record { round = 0; more = 0 }) false
@@ -139,7 +139,7 @@ module _ {clock limit : ℕ} {es : List Entry} where
           begun = l;
           ran = v .ran ∙ ap (ranFrom clock limit t) (next-line h) ∙ s .ran;
           went = v .went ∙ omega (arith, v .count, ap (wentFrom clock limit t) (next-line h), s .went);
-          live = v .live ∙ ap (λ (q : Bool). b || q) (ap (liveFrom clock limit t) (next-line h) ∙ step-live clock limit s ∙ ap (λ (q : Bool). not q || liveFrom clock limit u (lineTo es (left - 1))) (sym (y ∙ ap (dead clock) x))) ∙ sym (or-assoc b (not d) (liveFrom clock limit u (lineTo es (left - 1))));
+          live = v .live ∙ ap (λ (q : Bool). b || q) (ap (anyLiveFrom clock limit t) (next-line h) ∙ step-live clock limit s ∙ ap (λ (q : Bool). not q || anyLiveFrom clock limit u (lineTo es (left - 1))) (sym (y ∙ ap (dead clock) x))) ∙ sym (or-assoc b (not d) (anyLiveFrom clock limit u (lineTo es (left - 1))));
         }
 
     leaves-all : {n : ℕ} {rest : List Entry} → n ≡ length es → lineTo es left ≡ rest → Ends clock limit t rest → Leaves clock limit (reverse es) (t .round) (n - left) b
@@ -147,7 +147,7 @@ module _ {clock limit : ℕ} {es : List Entry} where
         record {
           ran = sym (v .ran ∙ ap (ranFrom clock limit t) x ∙ s .ran);
           went = sym (v .went ∙ omega (arith, ap (wentFrom clock limit t) x, s .went));
-          live = sym (v .live ∙ ap (λ (q : Bool). b || q) (ap (liveFrom clock limit t) x ∙ end-live clock limit s) ∙ or-false b);
+          live = sym (v .live ∙ ap (λ (q : Bool). b || q) (ap (anyLiveFrom clock limit t) x ∙ end-live clock limit s) ∙ or-false b);
         }
 
     -- or it would begin a round too many
