@@ -142,8 +142,8 @@ void reefcandor_show(const uint64_t *dir, size_t dir_len, const uint8_t *pool, s
 /* Stores. `number` is the value for REEFCANDOR_KIND_NUMBER and, as "not 0", for REEFCANDOR_KIND_BOOLEAN; `text` is it
  * for REEFCANDOR_KIND_TEXT. Each sweeps, then writes over the key's entry if its value has the same length; else that
  * entry leaves and the new one takes the lowest place that is free. Where there is none, up to 30 rounds make one: each
- * takes the longest unused entry, whatever its state, and then up to two dead ones as a sweep does. If that is not
- * enough, 12. The entry goes to the front. The answer tells rounds, removed and forced. */
+ * takes the longest unused entry, whatever its state, and then up to two dead ones as a sweep does. If that would not be
+ * enough, none is run and the answer is 12. The entry goes to the front. The answer tells rounds, removed and forced. */
 
 /* Stores a value under a key; nil deletes the entry. */
 void reefcandor_set(uint64_t *dir, size_t dir_len, uint8_t *pool, size_t pool_len, uint64_t clock, const uint8_t *key,

@@ -128,13 +128,12 @@ _WORDS = {
 
 
 class Refused(Exception):
-    """A refused call: why (outcome, name), and what left the memory all the same (rounds, removed)."""
+    """A refused call: why (outcome, name), and what left the memory all the same (removed)."""
 
-    def __init__(self, outcome, rounds=0, removed=0):
-        super().__init__(outcome, rounds, removed)
+    def __init__(self, outcome, removed=0):
+        super().__init__(outcome, removed)
         self.outcome = Outcome(outcome)
         self.name = self.outcome.name
-        self.rounds = rounds
         self.removed = removed
 
     def __str__(self):
@@ -164,7 +163,7 @@ def _answer(words):
     if answer.outcome == Outcome.DONE:
         return answer
     refused = NotFound if answer.outcome == Outcome.NOT_FOUND else Refused
-    raise refused(answer.outcome, answer.rounds, answer.removed)
+    raise refused(answer.outcome, answer.removed)
 
 
 def _signed(bits):

@@ -38,13 +38,13 @@ class Yard(unittest.TestCase):
     def memory(self):
         return bytes(self.yard._dir), bytes(self.yard._pool)
 
-    def refuses(self, outcome, call, *arguments, told=(0, 0), **named):
+    def refuses(self, outcome, call, *arguments, removed=0, **named):
         """The call is refused with this outcome and tells nothing but this."""
         with self.assertRaises(Refused) as caught:
             call(*arguments, **named)
         refused = caught.exception
         self.assertEqual(refused.outcome, outcome)
-        self.assertEqual((refused.rounds, refused.removed), told)
+        self.assertEqual(refused.removed, removed)
         self.assertEqual(isinstance(refused, KeyError), outcome == Outcome.NOT_FOUND)
 
 
@@ -225,7 +225,7 @@ class Plates(Yard):
         self.now = 1499
         self.assertEqual((self.yard["AB12"], self.yard.ttl("AB12")), (14_200, 1))
         self.now = 1500
-        self.refuses(Outcome.NOT_FOUND, self.yard.find, "AB12", told=(0, 1))
+        self.refuses(Outcome.NOT_FOUND, self.yard.find, "AB12", removed=1)
 
     def test_p8(self):
         self.fill(lifetime=500)
@@ -243,9 +243,9 @@ class Plates(Yard):
 
     def test_p9_to_p12(self):
         self.fill()
-        self.refuses(Outcome.NO_MEMORY, self.yard.set, "e", text_for(5), told=(4, 4))
-        self.assertEqual(self.order(), "")
-        self.fill()
+        before = self.memory()
+        self.refuses(Outcome.NO_MEMORY, self.yard.set, "e", text_for(5))
+        self.assertEqual(self.memory(), before)
         self.refuses(Outcome.NO_MEMORY, self.yard.safe_set, "e", 5)
         self.assertEqual(self.order(), "dcba")
         self.yard["b"] = -7
@@ -272,7 +272,6 @@ class Refusals(Yard):
         self.fill()
         self.yard["d"] = 2**63 - 1
         self.yard["c"] = True
-        swept = (0, 1)
         for outcome, call, *arguments in [
             (Outcome.NOT_FOUND, self.yard.replace, "a", 1),
             (Outcome.EXISTS, self.yard.add, "c", 1),
@@ -286,7 +285,7 @@ class Refusals(Yard):
             for key in "bcd":
                 self.yard.find(key)
             self.now = 1500
-            self.refuses(outcome, call, *arguments, told=swept)
+            self.refuses(outcome, call, *arguments, removed=1)
 
     def test_not_sound(self):
         self.fill()

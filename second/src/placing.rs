@@ -78,29 +78,49 @@ pub(crate) fn put(
 /// Places an item anew, with rounds of eviction unless the form is a safe one.
 fn place(dir: &mut [u64], pool: &mut [u8], cells: &mut CellMap, clock: u64, item: &Item, safe: bool) -> Answer {
     let need = need(item.key.len() + item.value.len());
+    let most = if safe { 0 } else { MOST_ROUNDS };
+    let Some((start, answer)) = try_rounds(dir, cells, clock, need, most) else {
+        // Request 9 of document 02: "a store now removes nothing by rounds and answers 12 with rounds 0".
+        return Answer { outcome: NO_MEMORY, ..Answer::done() };
+    };
+    for _ in 0..answer.removed {
+        evict_last(dir, cells);
+    }
+    let new = item.at(start as u64);
+    write_item(pool, &new, item);
+    insert_in_front(dir, cells, &new);
+    answer
+}
+
+/// Runs rounds on a copy of the cell map until there is a place: its start, and what the call will answer. None "if no
+/// number of rounds up to 30 would make room".
+fn try_rounds(dir: &[u64], cells: &CellMap, clock: u64, need: usize, most: u64) -> Option<(usize, Answer)> {
+    let mut cells = cells.clone();
+    let mut line = (0..count(dir)).rev().map(|slot| entry(dir, slot)).peekable();
     let mut answer = Answer::done();
     loop {
-        // "Then the new entry takes the lowest start from which all the needed cells are free, and goes to the front."
+        // "the new entry takes the lowest start from which all the needed cells are free"
         if let Some(start) = cells.first_fit(need) {
-            let new = item.at(start as u64);
-            write_item(pool, &new, item);
-            insert_in_front(dir, cells, &new);
-            return answer;
+            return Some((start, answer));
         }
-        // "If there is none, a safe form answers 12." For the others: "at most 30 rounds, ending when nothing is left
-        // to remove. A round that removes nothing isn't counted."
-        if safe || answer.rounds == MOST_ROUNDS || count(dir) == 0 {
-            answer.outcome = NO_MEMORY;
-            answer.forced = false;
-            return answer;
+        // "at most 30 rounds, ending when nothing is left to remove. A round that removes nothing isn't counted."
+        if answer.rounds == most {
+            return None;
         }
-        // Request 3 of document 02: forced "is set exactly if the call answers 0 and at least one entry taken by the
-        // rounds was live at the call's clock". What goes with the round behind the last entry is dead.
-        answer.forced |= !last_is_dead(dir, clock);
-        // "remove the last entry whatever its state, then up to two dead ones as in the sweep, then look again"
-        evict_last(dir, cells);
-        answer.removed += 1 + sweep(dir, cells, clock);
+        // "remove the last entry whatever its state"
+        let last = line.next()?;
+        cells.release(last.cells());
+        answer.removed += 1;
+        // "then up to two dead ones as in the sweep, then look again"
+        for _ in 0..SWEEP {
+            let Some(dead) = line.next_if(|next| next.is_dead(clock)) else { break };
+            cells.release(dead.cells());
+            answer.removed += 1;
+        }
         answer.rounds += 1;
+        // Request 3 of document 02: forced "is set exactly if the call answers 0 and at least one entry taken by the
+        // rounds was live at the call's clock". What goes behind the last entry is dead.
+        answer.forced |= !last.is_dead(clock);
     }
 }
 

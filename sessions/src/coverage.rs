@@ -6,6 +6,8 @@ use crate::call::{Call, Name, Reply, Words, NAMES};
 const OUTCOMES: usize = 13;
 /// "at most 30 rounds"
 const MOST_ROUNDS: usize = 30;
+/// The most that thirty rounds take: an entry and up to two dead ones each.
+const MOST_TAKEN: usize = 3 * MOST_ROUNDS;
 /// From so many calls on everything has to be reached, but for
 const ENOUGH: u64 = 100_000;
 /// every single number of rounds, which takes so many.
@@ -35,8 +37,8 @@ struct Counts {
     scenes: [u64; SCENES.len()],
     /// Stored after so many rounds.
     rounds: [u64; MOST_ROUNDS + 1],
-    /// 12 after all rounds.
-    twelve_after_all: u64,
+    /// 12, and more entries are left than thirty rounds could have taken.
+    spared: u64,
     /// Stored after rounds, without and with the forced mark.
     forced: [u64; 2],
     stale: [u64; 2],
@@ -51,12 +53,12 @@ pub struct Coverage {
 }
 
 impl Coverage {
-    /// Counts a call and its reply.
-    pub fn count(&mut self, scene: Scene, call: &Call, reply: &Reply) {
+    /// Counts a call, its reply and the entries that it left.
+    pub fn count(&mut self, scene: Scene, call: &Call, reply: &Reply, left: usize) {
         let counts = &mut self.calls[call.name as usize];
         counts.scenes[scene as usize] += 1;
         match reply {
-            Reply::Answer(words) | Reply::Listing(words, _) => counts.count_answer(words),
+            Reply::Answer(words) | Reply::Listing(words, _) => counts.count_answer(words, left),
             Reply::Place([found, ..]) => counts.verdicts[*found as usize] += 1,
             Reply::Part(part) => counts.verdicts[usize::from(*part != [0, 0])] += 1,
             Reply::Verdict(yes) => counts.verdicts[usize::from(*yes)] += 1,
@@ -110,14 +112,14 @@ impl Coverage {
     fn print_rounds(&self) {
         println!(
             "\n{:14}{:>9}{:>9}{:>9}{:>9}{:>16}{:>9}",
-            "rounds", "0", "1", "2 to 29", "30", "12 after 30", "forced"
+            "rounds", "0", "1", "2 to 29", "30", "12, none taken", "forced"
         );
         for (name, counts) in self.running_rounds() {
             let rounds = &counts.rounds;
             let some: u64 = rounds[2..MOST_ROUNDS].iter().sum();
             let (none, one, all) = (rounds[0], rounds[1], rounds[MOST_ROUNDS]);
-            let (twelve, forced) = (counts.twelve_after_all, counts.forced[1]);
-            println!("{:14}{none:>9}{one:>9}{some:>9}{all:>9}{twelve:>16}{forced:>9}", name.text());
+            let (spared, forced) = (counts.spared, counts.forced[1]);
+            println!("{:14}{none:>9}{one:>9}{some:>9}{all:>9}{spared:>16}{forced:>9}", name.text());
         }
         let stored: Vec<String> = self.stored_after().iter().map(u64::to_string).collect();
         println!("\nstored after 0 to 30 rounds: {}", stored.join(" "));
@@ -141,7 +143,7 @@ fn cell(count: u64, width: usize) -> String {
 }
 
 impl Counts {
-    fn count_answer(&mut self, words: &Words) {
+    fn count_answer(&mut self, words: &Words, left: usize) {
         let [outcome, rounds, removed, forced, stale, ..] = *words;
         self.outcomes[outcome as usize] += 1;
         self.forced[forced as usize] += u64::from(outcome == 0 && rounds > 0);
@@ -150,7 +152,7 @@ impl Counts {
         self.most_removed = self.most_removed.max(removed);
         match outcome {
             0 => self.rounds[rounds as usize] += 1,
-            12 => self.twelve_after_all += u64::from(rounds as usize == MOST_ROUNDS),
+            12 => self.spared += u64::from(left > MOST_TAKEN),
             _ => {}
         }
     }
@@ -189,7 +191,7 @@ impl Counts {
             ("one round", self.rounds[1] > 0),
             ("2 to 29 rounds", self.rounds[2..MOST_ROUNDS].iter().any(|&count| count > 0)),
             ("30 rounds", self.rounds[MOST_ROUNDS] > 0),
-            ("12 after 30 rounds", self.twelve_after_all > 0),
+            ("12 that spared 30 rounds", self.spared > 0),
             ("rounds that took a live entry, and ones that took none", !self.forced.contains(&0)),
             ("removed above 0", self.removed > 0),
         ];
@@ -207,15 +209,15 @@ mod tests {
         let mut coverage = Coverage::default();
         let call = Call { name: Name::FlushAll, args: Args::default() };
         for scene in [Scene::Fresh, Scene::HandMade, Scene::Changed, Scene::Wild] {
-            coverage.count(scene, &call, &Reply::Answer([0; 10]));
+            coverage.count(scene, &call, &Reply::Answer([0; 10]), 0);
         }
         let failures = |coverage: &Coverage| -> Vec<String> {
             coverage.failures(ENOUGH).into_iter().filter(|line| line.starts_with("flush_all")).collect()
         };
         assert_eq!(failures(&coverage), ["flush_all: outcome 1 was not reached"]);
-        coverage.count(Scene::Fresh, &call, &Reply::Answer([1, 0, 0, 0, 0, 0, 0, 0, 0, 0]));
+        coverage.count(Scene::Fresh, &call, &Reply::Answer([1, 0, 0, 0, 0, 0, 0, 0, 0, 0]), 0);
         assert!(failures(&coverage).is_empty());
-        coverage.count(Scene::Fresh, &call, &Reply::Answer([2, 0, 0, 0, 0, 0, 0, 0, 0, 0]));
+        coverage.count(Scene::Fresh, &call, &Reply::Answer([2, 0, 0, 0, 0, 0, 0, 0, 0, 0]), 0);
         assert_eq!(failures(&coverage), ["flush_all: outcome 2 is none of this call's"]);
     }
 }

@@ -32,11 +32,11 @@ const FILES: [(&str, &str); 11] = [
 
 /// The names of Calls, the twelfth file.
 const CALLS: &str = "gave call ask freshWork freshCall afterSweep shown getFound getWork getCall staleFound \
-    getStaleCall deleteFound deleteWork deleteCall entryFor placeAt rewriteAt overwriteAt searched evicted isPlaced \
-    forcedBy fitOutcome placeFit placedBy placeAnew storeOver storeItem mostRounds admits booleanByte valueGiven \
-    storeAdmitted storeFound storeWork itemOf storeCall inRange addAt incrLive incrNew incrInitial incrFound \
-    incrWork incrCall ttlFound ttlCall expireAt expireFound expireCall flushAllWork flushAllCall flushed upTo \
-    flushExpiredWork flushExpiredCall rowOf liveOf keyCount keyRows listing listed keysOf getKeysCall rowWords \
+    getStaleCall deleteFound deleteWork deleteCall entryFor placeAt rewriteAt overwriteAt searched isPlaced ifRoom \
+    evicted forcedBy fitOutcome placeFit placedBy placeAnew storeOver storeItem mostRounds admits booleanByte \
+    valueGiven storeAdmitted storeFound storeWork itemOf storeCall inRange addAt incrLive incrNew incrInitial \
+    incrFound incrWork incrCall ttlFound ttlCall expireAt expireFound expireCall flushAllWork flushAllCall flushed \
+    upTo flushExpiredWork flushExpiredCall rowOf liveOf keyCount keyRows listing listed keysOf getKeysCall rowWords \
     flatListing listedFlat flatKeysOf getKeysFlatCall bytesStart bytesAtCall textFound showFound textOr showCall";
 
 const SOUND: &str = "entriesOf decode holds held freeRun every any rightLengths valueFits entrySound noneShared \
@@ -48,8 +48,8 @@ const FIND: &str = "dead same keyOf keyIs foundFrom lookUp";
 const SWEEP: &str = "deads without remove removeOldest sweepCount sweep afterSweep";
 const READ: &str = "shown numberAt";
 const PUT: &str = "expiryOf entryFor put placeAt toFront rewriteAt overwriteAt after gone anyLive fitFrom firstFree \
-    run searched evicted isPlaced forcedBy fitOutcome placeFit placedBy placeAnew storeOver storeItem mostRounds \
-    booleanByte numberBytes valueGiven itemOf";
+    run searched isPlaced ifRoom evicted forcedBy fitOutcome placeFit placedBy placeAnew storeOver storeItem \
+    mostRounds booleanByte numberBytes valueGiven itemOf";
 const STORE: &str = "checkKind takesNil checkNil tooLate checkLifetime storeChecks admits deleteFound storeAdmitted \
     storeFound storeWork storeCall";
 const INCR: &str = "tooLate checkLifetime checkInitial incrChecks numberAt inRange addAt incrLive incrNew incrInitial \

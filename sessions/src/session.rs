@@ -81,7 +81,7 @@ impl Session {
         let call = arguments::draw(&mut self.random, name, self.duel.memory(), &self.keys, clock);
         let reply = self.duel.call(&call)?;
         let scene = if self.sound.is_some() { Scene::Changed } else { self.scene };
-        self.coverage.count(scene, &call, &reply);
+        self.coverage.count(scene, &call, &reply, self.duel.memory().count());
         self.made += 1;
         Ok(())
     }

@@ -175,11 +175,10 @@ static void only_dead_ones_go(void) {
 static void p9_to_p12(void) {
     uint64_t before[DIR];
     full_yard(0);
-    set_cells("e", 5);
-    answers((struct told){.outcome = REEFCANDOR_NO_MEMORY, .rounds = 4, .removed = 4}, "P9: 12, rounds 4");
-    order("", "P9: no entries");
-    full_yard(0);
     memcpy(before, dir, sizeof dir);
+    set_cells("e", 5);
+    bare(REEFCANDOR_NO_MEMORY, "P9: 12, rounds 0");
+    expect(memcmp(before, dir, sizeof dir) == 0, "P9: all four entries stay");
     safe_set_cells("e", 1);
     bare(REEFCANDOR_NO_MEMORY, "P10: 12");
     expect(memcmp(before, dir, sizeof dir) == 0, "P10: unchanged");

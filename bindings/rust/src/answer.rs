@@ -24,7 +24,7 @@ impl Answer {
         if outcome != 0 {
             // the library answers no other number; if it did, nothing that it tells could be relied on
             let refusal = Refusal::from_number(outcome).unwrap_or(Refusal::NotSound);
-            return Err(Refused { refusal, rounds, removed });
+            return Err(Refused { refusal, removed });
         }
         let (forced, stale) = (forced != 0, stale != 0);
         let stored = Stored { rounds, removed, forced };

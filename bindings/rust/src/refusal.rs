@@ -30,7 +30,7 @@ pub enum Refusal {
     NotNumber = 10,
     /// The sum does not fit a signed number of 64 bits. Nothing but the sweep has changed.
     SumTooLarge = 11,
-    /// There is no place for the entry. Sweep, the key's own old entry and the rounds are gone.
+    /// There is no place for the entry, and no 30 rounds would make one. What the sweep took and the key's own old entry are gone.
     NoMemory = 12,
 }
 
@@ -88,9 +88,7 @@ impl Error for Refusal {}
 pub struct Refused {
     /// Why the call was refused.
     pub refusal: Refusal,
-    /// Rounds run to make a place; 0 but for [`Refusal::NoMemory`].
-    pub rounds: u64,
-    /// Entries that the sweep and the rounds took.
+    /// Entries that the sweep took.
     pub removed: u64,
 }
 

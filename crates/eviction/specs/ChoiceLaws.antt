@@ -9,15 +9,15 @@ use Rattle.rules.specs.declared.Entry.{Entry}
 use Rattle.rules.specs.declared.Fit.{Fit}
 use Rattle.rules.specs.declared.Fit.the-variants.{Start, Nowhere}
 use Rattle.rules.specs.Layout.{cellsOf, entriesOf, memoryOf}
-use Rattle.rules.specs.Recency.{line, rounds, gone, anyLive}
-use Rattle.rules.specs.Place.{firstFree, run}
+use Rattle.rules.specs.Recency.{line, gone, anyLive}
+use Rattle.rules.specs.Place.{run}
 use Rattle.laws.specs.SoundnessLaws.{Sound}
-use Rattle.laws.specs.RecencyLaws.{rounds-few}
-use Rattle.laws.specs.LeastLossLaws.{gone-counted, left-counted}
+use Rattle.laws.specs.CallsLaws.{room-ran, no-room}
+use Rattle.rules.specs.Calls.{ifRoom}
 use Rattle.laws.specs.Cost.{fitWithin, first-within, Look, limit-start, limit-nowhere}
 use Rattle.eviction.specs.Choice.{Chosen}
 use Rattle.placement.specs.Fitting.{fitUnder}
-use Rattle.placement.specs.Least.{LeastPlace, least-none}
+use Rattle.placement.specs.Least.{LeastPlace}
 use Rattle.eviction.specs.Leaving.{Leaves}
 use Rattle.eviction.specs.Marking.{Marked}
 use Rattle.eviction.specs.Scratch.{lent, kept, lent-length, back-front}
@@ -29,37 +29,31 @@ fit-look {clock} {P} {es} {marks} n k m l =
     ∙ ap (λ (f : ℕ → ℕ). fitWithin f k n (suc P - n) 0) (fun-ext (m .marked))
     ∙ first-within clock 30 k es l P n
 
--- the least number of rounds that opens a place is a number of rounds that run
-pub all-ran : (clock P n : ℕ) (es : List Entry) (s k : ℕ) → Look clock P n es k ≡ Start s → ((j : ℕ) → j < k → Look clock P n es j ≡ Nowhere) → length (rounds clock k es) ≡ k
-all-ran clock P n es s k e none =
-    let same : Look clock P n es (length (rounds clock k es)) ≡ Start s = ap (firstFree P n) (left-counted clock k es) ∙ e in
-    let w : ¬ (length (rounds clock k es) < k) = λ l. let no : Look clock P n es (length (rounds clock k es)) ≡ Nowhere = none (length (rounds clock k es)) l in let z : _≡_ {A = ℕ} 0 1 = cc in omega arith in
-    omega (arith, rounds-few clock k es)
-
-pub chosen : {clock P n most limit ran went : ℕ} {b : Bool} {es : List Entry} {marks : List ℕ} (f : Fit) → Marked clock P es marks → most ≤ 30 → LeastPlace marks n most f limit → Leaves clock limit es ran went b → Chosen clock P n most es (record { fit = f; ran = ran; gone = went; live = b })
-chosen {clock} {P} {n} {most} {limit} {ran} {went} {b} {es} {marks} (Start s) m few l v =
+pub chosen : {clock P n most limit went : ℕ} {b : Bool} {es : List Entry} {marks : List ℕ} (f : Fit) → Marked clock P es marks → most ≤ 30 → LeastPlace marks n most f limit → Leaves clock limit es went b → Chosen clock P n most es (record { fit = f; ran = limit; gone = went; live = b })
+chosen {clock} {P} {n} {most} {limit} {went} {b} {es} {marks} (Start s) m few l v =
     let here : Look clock P n es limit ≡ Start s = sym (l .here ∙ fit-look n limit m (omega (arith, l .few))) in
     let none : (j : ℕ) → j < limit → Look clock P n es j ≡ Nowhere = λ j h. sym (fit-look n j m (omega (arith, l .few))) ∙ l .none-before j h in
     let r : (run clock P n most es .fit ≡ Start s) × (run clock P n most es .ran ≡ limit) = limit-start clock P n es most s limit (l .few) here none in
+    let e : limit ≡ ifRoom (run clock P n most es) .ran = sym (room-ran (run clock P n most es) (r .0) ∙ r .1) in
     record {
       fit = sym (r .0);
-      ran = v .ran ∙ all-ran clock P n es s limit here none ∙ sym (r .1);
-      gone = v .went ∙ ap (λ (k : ℕ). length (gone clock k es)) (sym (r .1));
-      live = v .live ∙ ap (λ (k : ℕ). anyLive clock (gone clock k es)) (sym (r .1));
+      ran = e;
+      gone = v .went ∙ ap (λ (k : ℕ). length (gone clock k es)) e;
+      live = v .live ∙ ap (λ (k : ℕ). anyLive clock (gone clock k es)) e;
     }
-chosen {clock} {P} {n} {most} {limit} {ran} {went} {b} {es} {marks} Nowhere m few l v =
-    let e : limit ≡ most = l .last refl in
-    let none : (j : ℕ) → j ≤ most → Look clock P n es j ≡ Nowhere = λ j h. sym (fit-look n j m (omega arith)) ∙ least-none l j h in
-    let r : (run clock P n most es .fit ≡ Nowhere) × (run clock P n most es .ran ≡ length (rounds clock most es)) = limit-nowhere clock P n es most none in
+chosen {clock} {P} {n} {most} {limit} {went} {b} {es} {marks} Nowhere m few l v =
+    let none : (j : ℕ) → j ≤ most → Look clock P n es j ≡ Nowhere = λ j h. sym (fit-look n j m (omega arith)) ∙ l .none refl j h in
+    let f : run clock P n most es .fit ≡ Nowhere = limit-nowhere clock P n es most none .0 in
+    let e : limit ≡ ifRoom (run clock P n most es) .ran = l .no-rounds refl ∙ sym (no-room (run clock P n most es) f) in
     record {
-      fit = sym (r .0);
-      ran = v .ran ∙ ap (λ (k : ℕ). length (rounds clock k es)) e ∙ sym (r .1);
-      gone = v .went ∙ ap (λ (k : ℕ). length (gone clock k es)) e ∙ sym (ap (λ (k : ℕ). length (gone clock k es)) (r .1) ∙ ap length (gone-counted clock most es));
-      live = v .live ∙ ap (λ (k : ℕ). anyLive clock (gone clock k es)) e ∙ sym (ap (λ (k : ℕ). anyLive clock (gone clock k es)) (r .1) ∙ ap (anyLive clock) (gone-counted clock most es));
+      fit = sym f;
+      ran = e;
+      gone = v .went ∙ ap (λ (k : ℕ). length (gone clock k es)) e;
+      live = v .live ∙ ap (λ (k : ℕ). anyLive clock (gone clock k es)) e;
     }
 
 -- the same, of marks made in a scratch array of N cells
-pub chosen-scratch : (N : ℕ) {clock n most limit ran went : ℕ} {b : Bool} {dir pool back : List ℕ} (s : Sound dir pool) (room : 1024 ≤ N) (f : Fit) → Marked clock (length (lent N s room)) (reverse (entriesOf dir)) back → most ≤ 30 → LeastPlace (take (cellsOf pool) (back ++ kept N s room)) n most f limit → Leaves clock limit (reverse (entriesOf dir)) ran went b → Chosen clock (cellsOf pool) n most (line (memoryOf dir pool)) (record { fit = f; ran = ran; gone = went; live = b })
+pub chosen-scratch : (N : ℕ) {clock n most limit went : ℕ} {b : Bool} {dir pool back : List ℕ} (s : Sound dir pool) (room : 1024 ≤ N) (f : Fit) → Marked clock (length (lent N s room)) (reverse (entriesOf dir)) back → most ≤ 30 → LeastPlace (take (cellsOf pool) (back ++ kept N s room)) n most f limit → Leaves clock limit (reverse (entriesOf dir)) went b → Chosen clock (cellsOf pool) n most (line (memoryOf dir pool)) (record { fit = f; ran = limit; gone = went; live = b })
 unfolding memoryOf
 chosen-scratch N {clock} {dir = dir} {pool} {back} s room f m few l v =
     let q : Marked clock (cellsOf pool) (reverse (entriesOf dir)) back = rw (lent-length N s room) at m in

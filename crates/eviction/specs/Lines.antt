@@ -7,7 +7,7 @@ use lib.ListN.{length, take, getD}
 use lib.Seq.{take-length}
 use Rattle.rules.specs.declared.Entry.{Entry}
 use Rattle.rules.specs.Layout.{none, entriesOf, entryAt}
-use Rattle.rules.specs.Recency.{deads, rounds, gone}
+use Rattle.rules.specs.Recency.{deads, gone}
 use Rattle.laws.specs.LayoutLaws.{getD-entries}
 use Rattle.laws.specs.RecencyLaws.{line-more}
 
@@ -32,11 +32,6 @@ pub deads-nil : (clock k : ℕ) → deads clock k [] ≡ 0
 unfolding deads
 deads-nil clock zero = refl
 deads-nil clock (suc k) = refl
-
-pub rounds-nil : (clock n : ℕ) → rounds clock n [] ≡ []
-unfolding rounds
-rounds-nil clock zero = refl
-rounds-nil clock (suc n) = refl
 
 pub gone-nil : (clock n : ℕ) → gone clock n [] ≡ []
 unfolding gone

@@ -124,18 +124,17 @@ fn mark_line(marks: &mut [u8], dir: &[u64], clock: u64)
     }
 }
 
-// How many rounds there are, how many entries they take, and whether one of those is live.
-struct Rounds {
-    ran: usize,
+// How many entries leave, and whether one of them is live.
+struct Leavers {
     gone: usize,
     live: bool,
 }
 
-// The first `limit` rounds, or all of them if there are fewer. Only the entries that go are walked.
-fn rounds_of(dir: &[u64], clock: u64, limit: usize) -> Rounds
+// The entries of the first `limit` rounds, or all of them if there are fewer rounds. Only those are walked.
+fn find_leavers(dir: &[u64], clock: u64, limit: usize) -> Leavers
     requires { ⌜ Dir (now dir) ⌝ }
     requires { ⌜ limit ≤ 30 ⌝ }
-    ensures { λ r. ⌜ Leaves clock limit (reverse (entriesOf (now (dir .entry)))) (r .ran) (r .gone) (r .live) ⌝ }
+    ensures { λ r. ⌜ Leaves clock limit (reverse (entriesOf (now (dir .entry)))) (r .gone) (r .live) ⌝ }
 {
     let n = directory::count(dir);
     let mut turn = Turn { round: 0, more: 0 };
@@ -151,8 +150,7 @@ fn rounds_of(dir: &[u64], clock: u64, limit: usize) -> Rounds
         left -= 1;
         live = live | !dead;
     }
-    Rounds {
-        ran: turn.round as usize,
+    Leavers {
         gone: n - left,
         live,
     }
@@ -166,7 +164,7 @@ pub struct Choice {
     pub live: bool,
 }
 
-// The place of fewest rounds, `most` at the most, and of lowest start; without one, all the rounds that may run.
+// The place of fewest rounds, `most` at the most, and of lowest start; without one, no rounds.
 pub fn choose(dir: &[u64], pool: &[u8], clock: u64, need: usize, most: usize) -> Choice
     requires { ⌜ sound (now dir) (now pool) ≡ true ⌝ }
     requires { ⌜ (0 < need) × (most ≤ 30) ⌝ }
@@ -177,10 +175,10 @@ pub fn choose(dir: &[u64], pool: &[u8], clock: u64, need: usize, most: usize) ->
     mark_line(&mut marks[..cells], dir, clock);
     let least = placement::find_place(&marks[..cells], need, most);
     let fit = least.fit;
-    let left = rounds_of(dir, clock, least.limit);
+    let left = find_leavers(dir, clock, least.limit);
     Choice {
         fit,
-        ran: left.ran,
+        ran: least.limit,
         gone: left.gone,
         live: left.live,
     }

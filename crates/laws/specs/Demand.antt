@@ -1,6 +1,6 @@
 -- Demand 3 holds of the calls' definitions. No equation of pools is used for what is removed, only that the entries that stay keep their bytes.
 use mathlib.Core.Path.{_≡_, refl, sym, ap, _∙_, subst}
-use mathlib.Core.Bool.{Bool, true, false}
+use mathlib.Core.Bool.{true, false}
 use mathlib.Core.List.{List, [], _∷_, _++_, reverse, reverse-cons, reverse-reverse}
 use mathlib.Core.Logic.{inl, inr}
 use Prim.Native.Nat.{ℕ, _+_, _-_, _*_, _≤_, _<_}
@@ -10,8 +10,6 @@ use lib.IntN.{ℤ, _+ℤ_}
 use Rattle.rules.specs.declared.Entry.{Entry}
 use Rattle.rules.specs.declared.Outcome.{Outcome}
 use Rattle.rules.specs.declared.Outcome.the-variants.{Done, Sum}
-use Rattle.rules.specs.declared.Check.{Check}
-use Rattle.rules.specs.declared.Check.the-variants.{Passed}
 use Rattle.rules.specs.declared.Found.{Found}
 use Rattle.rules.specs.declared.Found.the-variants.{Live, Dead, Missing}
 use Rattle.rules.specs.declared.Operation.{Operation}
@@ -21,19 +19,17 @@ use Rattle.rules.specs.declared.Fit.{Fit}
 use Rattle.rules.specs.declared.Fit.the-variants.{Start, Nowhere}
 use Rattle.rules.specs.Layout.{cellsOf, needOf, none, memoryOf, put, Memory, remove, removeOldest}
 use Rattle.laws.specs.LayoutLaws.{entries-encode}
-use Rattle.rules.specs.Checks.{passed, _then_, checkKind, checkNil, checkLifetime, checkInitial, keyChecks, storeChecks, incrChecks}
-use Rattle.laws.specs.CallsLaws.{call-passed}
 use Rattle.rules.specs.Recency.{line, sweepCount, sweep, left, gone}
-use Rattle.laws.specs.RecencyLaws.{gone-left, rounds-few, never-over}
+use Rattle.laws.specs.RecencyLaws.{gone-left, never-over}
 use Rattle.rules.specs.Place.{holds, held, Placed, run}
 use Rattle.laws.specs.PlaceLaws.{RanBy, run-ran}
 use Rattle.laws.specs.CellLaws.{Alone, alone-reverse, held-reverse}
 use Rattle.laws.specs.SoundnessLaws.{Sound, in-holds}
 use Rattle.rules.specs.Answer.{numberOf, fieldsOf}
 use Rattle.rules.specs.LookUp.{lookUp}
-use Rattle.rules.specs.Calls.{Work, call, afterSweep, itemOf, storeWork, storeCall, incrWork, incrCall, Item, entryFor, needFor, placeAt, searched, evicted, fitOutcome, placeFit, placedBy, placeAnew}
-use Rattle.rules.specs.LeastLoss.{notSafe, storeMustPlace, storePlacesAnew, incrMustPlace, incrPlacesAnew, LeastLossOf, IncrLosesLeast, Demand3, ownOut, restFor, lineFor, LeastLoss, Cheapest, Costs, Place}
-use Rattle.laws.specs.LeastLossLaws.{passed-is, first-passed, keyed-sound, store-anew, incr-anew, cheapest, no-place, nothing-left, left-counted, after-rounds}
+use Rattle.rules.specs.Calls.{Work, written, itemOf, storeCall, incrCall, Item, entryFor, needFor, placeAt, searched, isPlaced, ifRoom, evicted, fitOutcome, placeFit, placedBy, placeAnew}
+use Rattle.rules.specs.LeastLoss.{StoreLosesLeast, LeastLossOf, IncrLosesLeast, Demand3, ownOut, restFor, lineFor, LeastLoss, Cheapest, Costs, Place}
+use Rattle.laws.specs.LeastLossLaws.{cheapest, no-place, after-rounds}
 use Rattle.laws.specs.Lists.{Each, nil, one, Pairs, none-yet, first, each-sub, each-map, each-with, each-all, each-at}
 use Rattle.laws.specs.Crowd.{Apart, Clear, held-none, clear-cells}
 use Rattle.laws.specs.SoundMemory.{SoundMemory, memory-of}
@@ -41,7 +37,7 @@ use Rattle.laws.specs.Bytes.{Same, stored-key, stored-value}
 use Rattle.laws.specs.Blocks.{remove-sub, remove-same, sound-remove, place-same}
 use Rattle.laws.specs.Kept.{oldest-by}
 use Rattle.laws.specs.Keys.{clear-from}
-use Rattle.laws.specs.Booleans.{and-left, and-right, true-at}
+use Rattle.laws.specs.Anew.{store-sound, store-gives, incr-sound, incr-gives}
 
 -- ---- what removals leave
 
@@ -104,8 +100,8 @@ module _ (P clock : ℕ) (item : Item) (told : Outcome) (before : Memory) (done 
     kept-each : {Q : Entry → Type 0} (k : ℕ) → Each Q (removeOldest (length (gone clock k es)) m .entries) → Each Q (left clock k es)
     kept-each {Q = Q} k a = subst (Each Q) (ap reverse (after-rounds clock k m) ∙ reverse-reverse (left clock k es)) (each-reverse a)
 
-    by-fit : (f : Fit) (k : ℕ) → RanBy clock P (needFor item) 30 es f k → LeastLoss clock item before (placedBy clock item told (sweepCount clock before) m (record { fit = f; ran = k }) .answer) (placedBy clock item told (sweepCount clock before) m (record { fit = f; ran = k }) .memory)
-    unfolding placedBy evicted fitOutcome placeFit placeAt lineFor entryFor sweepCount fieldsOf
+    by-fit : (f : Fit) (k : ℕ) → RanBy clock P (needFor item) 30 es f k → LeastLoss clock item before (placedBy clock item told (sweepCount clock before) m (ifRoom (record { fit = f; ran = k })) .answer) (placedBy clock item told (sweepCount clock before) m (ifRoom (record { fit = f; ran = k })) .memory)
+    unfolding placedBy ifRoom isPlaced evicted gone left fitOutcome placeFit placeAt lineFor entryFor sweepCount fieldsOf
     by-fit (Start s) k r =
         let rest : Memory = removeOldest (length (gone clock k es)) m in
         let w : Rest P before rest = rest-behind k in
@@ -136,24 +132,23 @@ module _ (P clock : ℕ) (item : Item) (told : Outcome) (before : Memory) (done 
           never-over = never-over clock (line before) es k (r .1);
         }
     by-fit Nowhere k r =
-        let w : Rest P before (removeOldest (length (gone clock k es)) m) = rest-behind k in
-        let x : left clock k es ≡ left clock 30 es = ap (λ (j : ℕ). left clock j es) (r .1) ∙ left-counted clock 30 es in
+        let w : Rest P before (removeOldest 0 m) = rest-behind 0 in
         record {
-          kept = left clock k es;
-          just-those = gone-left clock k es;
-          bytes = λ i l. let x : Same (before .pool) (removeOldest (length (gone clock k es)) m .pool) (getD (left clock k es) i none) = each-at i l (kept-each k (w .same)) in (x .key, x .value);
+          kept = es;
+          just-those = refl;
+          bytes = λ i l. let x : Same (before .pool) (removeOldest 0 m .pool) (getD es i none) = each-at i l (kept-each 0 (w .same)) in (x .key, x .value);
           answers =
               inr (
                 refl,
                 record {
                   no-place = subst (λ (p : ℕ). (start cost : ℕ) → Place p (needFor item) start → Costs clock (needFor item) es start cost → 30 < cost) (sym cells) (no-place clock es P (needFor item) (alone-reverse (m .entries) (pairs-alone (h .sound .apart))) 30 (r .0));
-                  thirty = r .1;
-                  or-all = λ l. x ∙ nothing-left clock 30 es (omega (arith, r .1));
-                  entries = after-rounds clock k m;
+                  no-rounds = refl;
+                  nothing-gone = refl;
+                  entries = after-rounds clock 0 m;
                 },
               );
           removals = refl;
-          never-over = never-over clock (line before) es k (omega (arith, r .1, rounds-few clock 30 es));
+          never-over = never-over clock (line before) es 0 (omega arith);
         }
 
     pub place-anew : cellsOf (m .pool) ≡ P → LeastLoss clock item before (placeAnew 30 clock item told (sweepCount clock before) m .answer) (placeAnew 30 clock item told (sweepCount clock before) m .memory)
@@ -162,48 +157,31 @@ module _ (P clock : ℕ) (item : Item) (told : Outcome) (before : Memory) (done 
         let p : Placed = run clock (cellsOf (m .pool)) (needFor item) 30 es in
         by-fit (p .fit) (p .ran) (subst (λ (c : ℕ). RanBy clock c (needFor item) 30 es (p .fit) (p .ran)) e (run-ran clock (cellsOf (m .pool)) (needFor item) 30 es))
 
--- a call whose work places anew
-work-anew : (clock : ℕ) (item : Item) (told : Outcome) (dir pool : List ℕ) (c : Check) (work : Memory → Work) → numberOf told ≡ 0 → c ≡ Passed → Sound dir pool → 1 ≤ length (item .key)
-    → work (memoryOf dir pool) ≡ placeAnew 30 clock item told (sweepCount clock (memoryOf dir pool)) (restFor clock (item .key) (memoryOf dir pool))
-    → LeastLossOf clock item dir pool (call c work dir pool)
+-- the memory that such a call leaves
+pub loses-least : (clock : ℕ) (item : Item) (told : Outcome) (dir pool : List ℕ) → numberOf told ≡ 0 → Sound dir pool → 1 ≤ length (item .key)
+    → LeastLossOf clock item dir pool (written (length dir) (placeAnew 30 clock item told (sweepCount clock (memoryOf dir pool)) (restFor clock (item .key) (memoryOf dir pool))))
 unfolding memoryOf
-work-anew clock item told dir pool c work done p s k e =
+loses-least clock item told dir pool done s k =
     let before : Memory = memoryOf dir pool in
     let w : Work = placeAnew 30 clock item told (sweepCount clock before) (restFor clock (item .key) before) in
     let h : Rest (cellsOf pool) before (restFor clock (item .key) before) = rest-for (cellsOf pool) clock (item .key) before (memory-of s) in
-    rw (call-passed c dir pool work p, e, entries-encode (length dir) (w .memory .entries))
-    (place-anew (cellsOf pool) clock item told before done k refl h (omega (arith, h .sound .pool-size)))
+    rw (entries-encode (length dir) (w .memory .entries)) (place-anew (cellsOf pool) clock item told before done k refl h (omega (arith, h .sound .pool-size)))
 
-stores : (op : Operation) (dir pool : List ℕ) (clock : ℕ) (key : List ℕ) (kind : ℕ) (number : ℤ) (text : List ℕ) (lifetime flags : ℕ) → storePlacesAnew op dir pool clock key kind number text lifetime flags ≡ true → LeastLossOf clock (itemOf clock key kind number text lifetime flags) dir pool (storeCall op dir pool clock key kind number text lifetime flags)
-unfolding storePlacesAnew storeCall storeWork afterSweep restFor itemOf storeChecks fieldsOf
+stores : (op : Operation) (dir pool : List ℕ) (clock : ℕ) (key : List ℕ) (kind : ℕ) (number : ℤ) (text : List ℕ) (lifetime flags : ℕ) → StoreLosesLeast op dir pool clock key kind number text lifetime flags (storeCall op dir pool clock key kind number text lifetime flags)
+unfolding itemOf fieldsOf
 stores op dir pool clock key kind number text lifetime flags t =
     let item : Item = itemOf clock key kind number text lifetime flags in
-    let m : Memory = sweep clock (memoryOf dir pool) in
-    let c0 : Check = keyChecks dir pool clock key in
-    let c : Check = storeChecks op dir pool clock key kind lifetime in
-    let bs : List Bool = notSafe op ∷ passed c ∷ storeMustPlace op item m (lookUp clock key m) ∷ [] in
-    let p : c ≡ Passed = passed-is c (true-at bs 1 t) in
-    let q : c0 ≡ Passed = first-passed c0 (checkKind kind) (first-passed (c0 then checkKind kind) (checkNil op kind) (first-passed (c0 then checkKind kind then checkNil op kind) (checkLifetime clock lifetime) p)) in
-    let s : Sound dir pool × (0 < length key) = keyed-sound dir pool clock key q in
-    work-anew clock item Done dir pool c (storeWork op clock item) refl p (s .0) (s .1)
-    (store-anew op clock item (sweepCount clock (memoryOf dir pool)) m (lookUp clock key m) (true-at bs 0 t) (true-at bs 2 t))
+    let s : Sound dir pool × (0 < length key) = store-sound op dir pool clock key kind number text lifetime flags t in
+    subst (LeastLossOf clock item dir pool) (sym (store-gives op dir pool clock key kind number text lifetime flags t)) (loses-least clock item Done dir pool refl (s .0) (s .1))
 
-incrs : (dir pool : List ℕ) (clock : ℕ) (key : List ℕ) (by number : ℤ) (lifetime : ℕ) → incrPlacesAnew dir pool clock key by (Given number lifetime) ≡ true → LeastLossOf clock (itemOf clock key 3 (number +ℤ by) [] lifetime 0) dir pool (incrCall dir pool clock key by (Given number lifetime))
-unfolding incrPlacesAnew incrCall incrWork afterSweep restFor itemOf incrChecks checkInitial fieldsOf
-incrs dir pool clock key by number lifetime t =
-    let item : Item = itemOf clock key 3 (number +ℤ by) [] lifetime 0 in
-    let m : Memory = sweep clock (memoryOf dir pool) in
-    let c : Check = incrChecks dir pool clock key (Given number lifetime) in
-    let b : Bool = incrMustPlace clock key by (Given number lifetime) m (lookUp clock key m) in
-    let p : c ≡ Passed = passed-is c (and-left (passed c) b t) in
-    let s : Sound dir pool × (0 < length key) = keyed-sound dir pool clock key (first-passed (keyChecks dir pool clock key) (checkLifetime clock lifetime) p) in
-    work-anew clock item (Sum (number +ℤ by)) dir pool c (incrWork clock key by (Given number lifetime)) refl p (s .0) (s .1)
-    (incr-anew clock key by number lifetime (sweepCount clock (memoryOf dir pool)) m (lookUp clock key m) (and-right (passed c) b t))
-
-incrs-all : (dir pool : List ℕ) (clock : ℕ) (key : List ℕ) (by : ℤ) (initial : Initial) → IncrLosesLeast dir pool clock key by initial (incrCall dir pool clock key by initial)
-incrs-all dir pool clock key by Absent = tt
-incrs-all dir pool clock key by (Given number lifetime) = incrs dir pool clock key by number lifetime
+incrs : (dir pool : List ℕ) (clock : ℕ) (key : List ℕ) (step : ℤ) (initial : Initial) → IncrLosesLeast dir pool clock key step initial (incrCall dir pool clock key step initial)
+unfolding itemOf fieldsOf
+incrs dir pool clock key step Absent = tt
+incrs dir pool clock key step (Given number lifetime) = λ t.
+    let item : Item = itemOf clock key 3 (number +ℤ step) [] lifetime 0 in
+    let s : Sound dir pool × (0 < length key) = incr-sound dir pool clock key step number lifetime t in
+    subst (LeastLossOf clock item dir pool) (sym (incr-gives dir pool clock key step number lifetime t)) (loses-least clock item (Sum (number +ℤ step)) dir pool refl (s .0) (s .1))
 
 -- demand 3
 pub demand-3 : Demand3
-demand-3 = record { stores = stores; incrs = incrs-all }
+demand-3 = record { stores = stores; incrs = incrs }

@@ -28,7 +28,7 @@ use Rattle.rules.specs.Recency.{line, sweepCount, sweep, gone, anyLive}
 use Rattle.rules.specs.Place.{Placed}
 use Rattle.rules.specs.Answer.{plain, numberOf, fieldsOf}
 use Rattle.rules.specs.Checks.{storeChecks, incrChecks}
-use Rattle.rules.specs.Calls.{Work, Item, call, did, afterSweep, deleteFound, sameLength, searched, evicted, isPlaced, forcedBy, fitOutcome, placedBy, placeAnew, storeOver, storeItem, mostRounds, admits, itemOf, overwriteAt, storeAdmitted, storeFound, storeWork, storeCall, inRange, addAt, incrLive, incrNew, incrInitial, incrFound, incrWork, incrCall}
+use Rattle.rules.specs.Calls.{Work, Item, call, did, afterSweep, deleteFound, sameLength, searched, isPlaced, ifRoom, evicted, forcedBy, fitOutcome, placedBy, placeAnew, storeOver, storeItem, mostRounds, admits, itemOf, overwriteAt, storeAdmitted, storeFound, storeWork, storeCall, inRange, addAt, incrLive, incrNew, incrInitial, incrFound, incrWork, incrCall}
 use Rattle.rules.specs.LeastLoss.{ownOut, restFor, lineFor}
 use Rattle.rules.specs.Forced.{LiveAmong, ForcedExactly, ForcedOf, Request3}
 use Rattle.laws.specs.Booleans.{no-bool, no-true}
@@ -77,7 +77,7 @@ module _ (clock : ℕ) where
 
   anew : (most : ℕ) (item : Item) (told : Outcome) (removed : ℕ) (m : Memory) → numberOf told ≡ 0 → Marked (line m) (placeAnew most clock item told removed m .answer)
   unfolding placeAnew
-  anew most item told removed m z = let p : Placed = searched most clock item m in placed item told removed m (p .fit) (p .ran) z
+  anew most item told removed m z = let p : Placed = ifRoom (searched most clock item m) in placed item told removed m (p .fit) (p .ran) z
 
   -- ---- what a store does with what it finds
 

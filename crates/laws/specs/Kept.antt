@@ -29,7 +29,7 @@ use Rattle.rules.specs.Place.{held, Placed, run}
 use Rattle.laws.specs.PlaceLaws.{RanBy, run-ran}
 use Rattle.laws.specs.CellLaws.{held-reverse}
 use Rattle.laws.specs.LeastLossLaws.{after-rounds}
-use Rattle.rules.specs.Calls.{did, Item, itemOf, needFor, placeAt, overwriteAt, addAt, expireAt, sameLength, afterSweep, getFound, getWork, deleteFound, deleteWork, searched, evicted, placeFit, placedBy, placeAnew, storeOver, storeItem, mostRounds, admits, storeAdmitted, storeFound, storeWork, inRange, incrLive, incrNew, incrInitial, incrFound, incrWork, expireFound, flushAllWork, flushed, upTo, flushExpiredWork}
+use Rattle.rules.specs.Calls.{did, Item, itemOf, needFor, placeAt, overwriteAt, addAt, expireAt, sameLength, afterSweep, getFound, getWork, deleteFound, deleteWork, searched, isPlaced, ifRoom, evicted, placeFit, placedBy, placeAnew, storeOver, storeItem, mostRounds, admits, storeAdmitted, storeFound, storeWork, inRange, incrLive, incrNew, incrInitial, incrFound, incrWork, expireFound, flushAllWork, flushed, upTo, flushExpiredWork}
 use Rattle.laws.specs.Lists.{Each}
 use Rattle.laws.specs.Bytes.{FineItem}
 use Rattle.laws.specs.Finding.{Other, Means, Finds, finds}
@@ -94,9 +94,9 @@ module _ (P : ℕ) (Inv : Memory → Type 0) (Open : List ℕ → Memory → Typ
   -- ---- stores
 
   module _ (clock : ℕ) (item : Item) (told : Outcome) (removed : ℕ) (fi : FineItem item) where
-    placed-by : (most : ℕ) (m : Memory) (f : Fit) (r : ℕ) → RanBy clock (cellsOf (m .pool)) (needFor item) most (line m) f r → Open (item .key) m → Inv m → Inv (placedBy clock item told removed m (record { fit = f; ran = r }) .memory)
-    unfolding placedBy evicted placeFit
-    placed-by most m Nowhere r ran o h = oldest-kept (length (gone clock r (line m))) m h
+    placed-by : (most : ℕ) (m : Memory) (f : Fit) (r : ℕ) → RanBy clock (cellsOf (m .pool)) (needFor item) most (line m) f r → Open (item .key) m → Inv m → Inv (placedBy clock item told removed m (ifRoom (record { fit = f; ran = r })) .memory)
+    unfolding placedBy ifRoom isPlaced evicted placeFit
+    placed-by most m Nowhere r ran o h = oldest-kept (length (gone clock 0 (line m))) m h
     placed-by most m (Start s) r ran o h =
         let n : ℕ = length (gone clock r (line m)) in
         let rest : Memory = removeOldest n m in

@@ -33,3 +33,5 @@ pub mod Buffers
 pub mod AuditLaws
 pub mod NumberLaws
 pub mod ForcedLaws
+pub mod Anew
+pub mod SparedLaws

@@ -16,12 +16,13 @@ pub record LeastLimit (marks : List ℕ) (n most limit : ℕ) : Type 0 where
   pub none-before : (j : ℕ) → j < limit → fitUnder marks j n ≡ Nowhere
   pub some-here : limit ≤ most → fitUnder marks limit n ≡ Nowhere → ⊥
 
--- a place under that limit; without one, `most` is the limit
+-- a place under that limit; without one under any, 0 is the limit
 pub record LeastPlace (marks : List ℕ) (n most : ℕ) (fit : Fit) (limit : ℕ) : Type 0 where
   pub few : limit ≤ most
   pub here : fit ≡ fitUnder marks limit n
   pub none-before : (j : ℕ) → j < limit → fitUnder marks j n ≡ Nowhere
-  pub last : fit ≡ Nowhere → limit ≡ most
+  pub no-rounds : fit ≡ Nowhere → limit ≡ 0
+  pub none : fit ≡ Nowhere → (j : ℕ) → j ≤ most → fitUnder marks j n ≡ Nowhere
 
 -- ---- the pass
 
@@ -121,23 +122,28 @@ module _ {marks : List ℕ} {n bound start run top at : ℕ} (c : Climbed marks 
 -- ---- the place
 
 module _ {marks : List ℕ} {n most : ℕ} where
+  -- under some limit
+  place-under : {s limit : ℕ} → limit ≤ most → Start s ≡ fitUnder marks limit n → ((j : ℕ) → j < limit → fitUnder marks j n ≡ Nowhere) → LeastPlace marks n most (Start s) limit
+  place-under h e none-before = record { few = h; here = e; none-before = none-before; no-rounds = λ q. absurd (start-somewhere q); none = λ q. absurd (start-somewhere q) }
+    where
+      start-somewhere : {s : ℕ} → Start s ≡ Nowhere → ⊥
+      start-somewhere q = let z : _≡_ {A = ℕ} 0 1 = cc in omega arith
+
   -- under 0
   pub place-free : {s : ℕ} {f : Fit} → f ≡ fitUnder marks 0 n → f ≡ Start s → LeastPlace marks n most (Start s) 0
-  place-free e p = record { few = omega arith; here = sym p ∙ e; none-before = λ j l. absurd (omega arith); last = λ q. let z : _≡_ {A = ℕ} 0 1 = cc in absurd (omega arith) }
+  place-free e p = place-under (omega arith) (sym p ∙ e) (λ j l. absurd (omega arith))
 
-  -- where no round may run
+  -- under the least limit
+  pub place-least : {limit : ℕ} (f : Fit) → LeastLimit marks n most limit → limit ≤ most → f ≡ fitUnder marks limit n → LeastPlace marks n most f limit
+  place-least (Start s) l h e = place-under h e (l .none-before)
+  place-least Nowhere l h e = absurd (l .some-here h (sym e))
+
+  -- under none
+  place-nowhere : ((j : ℕ) → j ≤ most → fitUnder marks j n ≡ Nowhere) → LeastPlace marks n most Nowhere 0
+  place-nowhere h = record { few = omega arith; here = sym (h 0 (omega arith)); none-before = λ j l. absurd (omega arith); no-rounds = λ q. refl; none = λ q. h }
+
   pub place-safe : most ≡ 0 → Nowhere ≡ fitUnder marks 0 n → LeastPlace marks n most Nowhere 0
-  place-safe z e = record { few = omega arith; here = e; none-before = λ j l. absurd (omega arith); last = λ q. sym z }
+  place-safe z e = place-nowhere (λ j l. let w : j ≡ 0 = omega arith in rw w (sym e))
 
-  -- under the least limit, or under none
-  pub place-least : {limit : ℕ} {f : Fit} → LeastLimit marks n most limit → limit ≤ most → f ≡ fitUnder marks limit n → LeastPlace marks n most f limit
-  place-least l h e = record { few = h; here = e; none-before = l .none-before; last = λ q. absurd (l .some-here h (sym e ∙ q)) }
-
-  pub place-none : {limit : ℕ} → LeastLimit marks n most limit → most < limit → LeastPlace marks n most Nowhere most
-  place-none l h = record { few = omega arith; here = sym (l .none-before most h); none-before = λ j m. l .none-before j (omega arith); last = λ q. refl }
-
-  -- without a fit, no limit has one
-  pub least-none : {limit : ℕ} → LeastPlace marks n most Nowhere limit → (j : ℕ) → j ≤ most → fitUnder marks j n ≡ Nowhere
-  least-none {limit} r j h =
-      let w : limit ≡ most = r .last refl in
-      below-more _ limit (r .none-before) (sym (r .here)) j (omega arith)
+  pub place-none : {limit : ℕ} → LeastLimit marks n most limit → most < limit → LeastPlace marks n most Nowhere 0
+  place-none l h = place-nowhere (λ j m. l .none-before j (omega arith))

@@ -119,7 +119,7 @@ pub fn find_place(marks: &[u8], need: usize, most: usize) -> Least
     if most < limit {
         return Least {
             fit: Fit::Nowhere,
-            limit: most,
+            limit: 0, // no round is of use
         };
     }
     let found = first_fit(marks, limit as u8, need);

@@ -17,7 +17,7 @@ use Rattle.rules.specs.Place.{holds, held, freeRun, fitFrom, firstFree, run}
 use Rattle.rules.specs.Soundness.{every, any, rightLengths, valueFits, entrySound, noneShared, sound}
 use Rattle.rules.specs.Answer.{plain}
 use Rattle.rules.specs.Checks.{_then_, refuse, checkLengths, checkSound, checkClock, checkKey, checkKind, takesNil, checkNil, checkLifetime, clockChecks, keyChecks, storeChecks}
-use Rattle.rules.specs.Calls.{Result, call, ask, freshWork, freshCall, afterSweep, shown, getFound, getWork, getCall, deleteFound, entryFor, placeAt, rewriteAt, overwriteAt, searched, evicted, isPlaced, forcedBy, fitOutcome, placeFit, placedBy, placeAnew, storeOver, storeItem, mostRounds, admits, booleanByte, valueGiven, storeAdmitted, storeFound, storeWork, itemOf, storeCall, ttlFound, ttlCall}
+use Rattle.rules.specs.Calls.{Result, call, ask, freshWork, freshCall, afterSweep, shown, getFound, getWork, getCall, deleteFound, entryFor, placeAt, rewriteAt, overwriteAt, searched, isPlaced, ifRoom, evicted, forcedBy, fitOutcome, placeFit, placedBy, placeAnew, storeOver, storeItem, mostRounds, admits, booleanByte, valueGiven, storeAdmitted, storeFound, storeWork, itemOf, storeCall, ttlFound, ttlCall}
 
 -- ---- the memories
 
@@ -116,8 +116,8 @@ pub record Plates : Type 0 where
   pub p7 : (rounds (text Set full7 e 40) ≡ 3) × (start (text Set full7 e 40) ≡ 0) × (order (text Set full7 e 40) ≡ e ∷ d ∷ [])
   -- the sweep takes none; rounds 1, removed 3, d stays
   pub p8 : (sweepCount 1000 (memoryOf full8 cells) ≡ 0) × (rounds (number Set full8 e) ≡ 1) × (removed (number Set full8 e) ≡ 3) × (order (number Set full8 e) ≡ e ∷ d ∷ [])
-  -- five cells: 12, rounds 4, removed 4, no entries; not forced, by request 3
-  pub p9 : (text Set full e 140 .answer ≡ record { rounds = 4; removed = 4; forced = false; stale = false; outcome = NoMemory }) × (order (text Set full e 140) ≡ [])
+  -- five cells: 12; request 9: "P9 now leaves all four entries", rounds 0, removed 0
+  pub p9 : text Set full e 140 ≡ record { answer = plain NoMemory 0; dir = full; pool = cells }
   -- safe_set e: 12, unchanged
   pub p10 : number SafeSet full e ≡ record { answer = plain NoMemory 0; dir = full; pool = cells }
   -- safe_set a, two cells: 12, and a is gone
@@ -137,11 +137,11 @@ pub record Example : Type 0 where
   pub line5 : getCall (fresh .dir) (stored .pool) 1500 [] .answer ≡ plain KeyEmpty 0
 
 pub example : Example
-unfolding encode flat decode entriesOf without toFront put keyOf numberBytes numberAt memoryOf remove removeOldest moveToFront dead expiryOf tooLate timeLeft same keyIs foundFrom lookUp deads after gone sweepCount sweep holds held freeRun fitFrom firstFree run every any rightLengths valueFits entrySound noneShared sound _then_ refuse checkLengths checkSound checkClock checkKey checkKind takesNil checkNil checkLifetime clockChecks keyChecks storeChecks call ask freshWork freshCall afterSweep shown getFound getWork getCall deleteFound entryFor placeAt rewriteAt overwriteAt searched evicted anyLive isPlaced forcedBy fitOutcome placeFit placedBy placeAnew storeOver storeItem mostRounds admits booleanByte valueGiven storeAdmitted storeFound storeWork itemOf storeCall ttlFound ttlCall
+unfolding encode flat decode entriesOf without toFront put keyOf numberBytes numberAt memoryOf remove removeOldest moveToFront dead expiryOf tooLate timeLeft same keyIs foundFrom lookUp deads after gone sweepCount sweep holds held freeRun fitFrom firstFree run every any rightLengths valueFits entrySound noneShared sound _then_ refuse checkLengths checkSound checkClock checkKey checkKind takesNil checkNil checkLifetime clockChecks keyChecks storeChecks call ask freshWork freshCall afterSweep shown getFound getWork getCall deleteFound entryFor placeAt rewriteAt overwriteAt searched isPlaced ifRoom evicted anyLive forcedBy fitOutcome placeFit placedBy placeAnew storeOver storeItem mostRounds admits booleanByte valueGiven storeAdmitted storeFound storeWork itemOf storeCall ttlFound ttlCall
 example = record { line1 = refl; line2 = refl; line3 = refl; line4 = refl; line5 = refl }
 
 pub plates : Plates
-unfolding encode flat decode entriesOf without toFront put keyOf numberBytes numberAt memoryOf remove removeOldest moveToFront dead expiryOf tooLate timeLeft same keyIs foundFrom lookUp deads after gone sweepCount sweep holds held freeRun fitFrom firstFree run every any rightLengths valueFits entrySound noneShared sound _then_ refuse checkLengths checkSound checkClock checkKey checkKind takesNil checkNil checkLifetime clockChecks keyChecks storeChecks call ask freshWork freshCall afterSweep shown getFound getWork getCall deleteFound entryFor placeAt rewriteAt overwriteAt searched evicted anyLive isPlaced forcedBy fitOutcome placeFit placedBy placeAnew storeOver storeItem mostRounds admits booleanByte valueGiven storeAdmitted storeFound storeWork itemOf storeCall ttlFound ttlCall
+unfolding encode flat decode entriesOf without toFront put keyOf numberBytes numberAt memoryOf remove removeOldest moveToFront dead expiryOf tooLate timeLeft same keyIs foundFrom lookUp deads after gone sweepCount sweep holds held freeRun fitFrom firstFree run every any rightLengths valueFits entrySound noneShared sound _then_ refuse checkLengths checkSound checkClock checkKey checkKind takesNil checkNil checkLifetime clockChecks keyChecks storeChecks call ask freshWork freshCall afterSweep shown getFound getWork getCall deleteFound entryFor placeAt rewriteAt overwriteAt searched isPlaced ifRoom evicted anyLive forcedBy fitOutcome placeFit placedBy placeAnew storeOver storeItem mostRounds admits booleanByte valueGiven storeAdmitted storeFound storeWork itemOf storeCall ttlFound ttlCall
 plates =
     record {
       p1 = refl;
@@ -152,7 +152,7 @@ plates =
       p6 = (refl, refl, refl);
       p7 = (refl, refl, refl);
       p8 = (refl, refl, refl, refl);
-      p9 = (refl, refl);
+      p9 = refl;
       p10 = refl;
       p11 = (refl, refl);
       p12 = (refl, refl, refl);

@@ -23,7 +23,7 @@ use Rattle.rules.specs.Recency.{sweep, sweepCount}
 use Rattle.rules.specs.Soundness.{rightLengths, sound}
 use Rattle.rules.specs.Answer.{fieldsOf}
 use Rattle.rules.specs.Checks.{_then_, refuse, checkLengths, checkSound, checkClock, checkKey, checkKind, checkNil, checkLifetime, clockChecks, keyChecks, storeChecks}
-use Rattle.rules.specs.Calls.{Work, call, freshWork, freshCall, afterSweep, shown, getFound, getWork, getCall, deleteFound, deleteWork, deleteCall, Item, fitOutcome, placedBy, placeAnew, searched, sameLength, overwriteAt, did, mostRounds, storeOver, storeItem, admits, storeAdmitted, storeFound, storeWork, itemOf, storeCall}
+use Rattle.rules.specs.Calls.{Work, call, freshWork, freshCall, afterSweep, shown, getFound, getWork, getCall, deleteFound, deleteWork, deleteCall, Item, ifRoom, fitOutcome, placedBy, placeAnew, searched, sameLength, overwriteAt, did, mostRounds, storeOver, storeItem, admits, storeAdmitted, storeFound, storeWork, itemOf, storeCall}
 use Rattle.laws.specs.Lists.{each-at}
 use Rattle.laws.specs.Finding.{Finds, finds}
 use Rattle.laws.specs.SoundMemory.{Fine, SoundMemory}
@@ -84,7 +84,7 @@ bare-fit told (Start start) b = b
 bare-fit told Nowhere b = refl
 
 bare-placed : (most clock : ℕ) (item : Item) (removed : ℕ) (m : Memory) → Bare (placeAnew most clock item Done removed m .answer .outcome)
-unfolding placeAnew placedBy fieldsOf
+unfolding placeAnew placedBy ifRoom fieldsOf
 bare-placed most clock item removed m = bare-fit Done (searched most clock item m .fit) refl
 
 bare-over : (most clock : ℕ) (item : Item) (removed : ℕ) (m : Memory) (i : ℕ) → Bare (storeOver most clock item Done removed m i .answer .outcome)

@@ -174,18 +174,22 @@ overwriteAt item i m = rewriteAt i (entryFor item (entryIn m i .start)) (item .v
 
 -- ---- placing anew
 
--- how the rounds go, so many at most
+-- how the rounds of 01 go, so many at most
 unfoldable pub searched : ℕ → ℕ → Item → Memory → Placed
 searched most clock item m = run clock (cellsOf (m .pool)) (needFor item) most (line m)
+
+-- there is a place: "the call answers 0"
+unfoldable pub isPlaced : Fit → Bool
+isPlaced (Start start) = true
+isPlaced Nowhere = false
+
+-- request 9 of document 02: "If no number of rounds up to 30 would make room, a store now removes nothing by rounds and answers 12 with rounds 0"
+unfoldable pub ifRoom : Placed → Placed
+ifRoom p = record { fit = p .fit; ran = cond (isPlaced (p .fit)) (p .ran) 0 }
 
 -- the entries that the rounds take
 unfoldable pub evicted : ℕ → Placed → Memory → List Entry
 evicted clock p m = gone clock (p .ran) (line m)
-
--- "the call answers 0": there is a place
-unfoldable pub isPlaced : Fit → Bool
-isPlaced (Start start) = true
-isPlaced Nowhere = false
 
 -- request 3 of document 02: forced "is set exactly if the call answers 0 and at least one entry taken by the rounds was live at the call's clock"
 unfoldable pub forcedBy : ℕ → Placed → Memory → Bool
@@ -210,7 +214,7 @@ placedBy clock item told removed m p =
 
 -- "the new entry takes the lowest start from which all the needed cells are free, and goes to the front"
 unfoldable pub placeAnew : ℕ → ℕ → Item → Outcome → ℕ → Memory → Work
-placeAnew most clock item told removed m = placedBy clock item told removed m (searched most clock item m)
+placeAnew most clock item told removed m = placedBy clock item told removed m (ifRoom (searched most clock item m))
 
 -- ---- stores
 

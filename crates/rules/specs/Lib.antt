@@ -10,3 +10,4 @@ pub mod Calls
 pub mod LeastLoss
 pub mod Replay
 pub mod Forced
+pub mod Spared

@@ -15,12 +15,13 @@ use Rattle.rules.specs.Layout.{cellsOf, encode, entriesOf, put, Memory, memoryO
 use Rattle.rules.specs.Recency.{line, left, gone}
 use Rattle.rules.specs.Place.{held, Placed, run}
 use Rattle.rules.specs.Soundness.{sound}
-use Rattle.rules.specs.Calls.{Holds, Work, Does, Item, entryFor, needFor, placeAt, searched, evicted, isPlaced, forcedBy, fitOutcome, placeFit, placedBy, placeAnew}
+use Rattle.rules.specs.Calls.{Holds, Work, Does, Item, entryFor, needFor, placeAt, searched, isPlaced, ifRoom, evicted, forcedBy, fitOutcome, placeFit, placedBy, placeAnew}
 use Rattle.laws.specs.LayoutLaws.{put-then}
 use Rattle.laws.specs.RecencyLaws.{gone-left}
 use Rattle.laws.specs.PlaceLaws.{RanBy, run-ran}
 use Rattle.laws.specs.CellLaws.{held-reverse}
 use Rattle.laws.specs.LeastLossLaws.{after-rounds}
+use Rattle.laws.specs.CallsLaws.{room-ran, no-room}
 use Rattle.laws.specs.Bytes.{FineItem}
 use Rattle.laws.specs.SoundMemory.{SoundMemory, few}
 use Rattle.laws.specs.Blocks.{sound-place}
@@ -67,7 +68,7 @@ module _ (dir pool : List ℕ) (t : sound dir pool ≡ true) (clock most n : ℕ
   unfolding memoryOf
   gone-within =
       let es : List Entry = line (memoryOf dir pool) in
-      let k : ℕ = run clock (cellsOf pool) n most es .ran in
+      let k : ℕ = ifRoom (run clock (cellsOf pool) n most es) .ran in
       omega (arith, c .gone, ap length (gone-left clock k es), length-append (gone clock k es) (left clock k es), length-reverse (entriesOf dir))
 
   pub gone-few : r .gone ≤ 1024
@@ -82,11 +83,6 @@ module _ (dir pool : List ℕ) (t : sound dir pool ≡ true) (clock most : ℕ) 
 
   abbrev p : Placed
   p = run clock (cellsOf pool) (needFor item) most es
-
-  -- the memory behind them
-  behind-is : r .gone ≡ length (evicted clock p m)
-  unfolding evicted
-  behind-is = c .gone
 
   module _ {dir₁ pool₁ : List ℕ} (h : Holds (length dir) (removeOldest (r .gone) m) dir₁ pool₁) where
     behind-length : length dir₁ ≡ length dir
@@ -107,20 +103,24 @@ module _ (dir pool : List ℕ) (t : sound dir pool ≡ true) (clock most : ℕ) 
         }
 
     pub chosen-fits : (start : ℕ) → r .fit ≡ Start start → Fits item start (memoryOf dir₁ pool₁)
-    chosen-fits start e = fits-by (p .fit) (p .ran) start (run-ran clock (cellsOf pool) (needFor item) most es) (sym (c .fit) ∙ e) (c .gone)
+    chosen-fits start e =
+        let f : p .fit ≡ Start start = sym (c .fit) ∙ e in
+        fits-by (p .fit) (p .ran) start (run-ran clock (cellsOf pool) (needFor item) most es) f (c .gone ∙ ap (λ (k : ℕ). length (gone clock k es)) (room-ran p f))
 
     -- the answer of a choice, with a fit of its own
     abbrev answered : Outcome → ℕ → Fit → Answer
     answered told swept f = record { rounds = r .ran; removed = swept + r .gone; forced = isPlaced f && r .live; stale = false; outcome = fitOutcome told f }
 
     work-is : (told : Outcome) (swept : ℕ) (f : Fit) → r .fit ≡ f → record { answer = answered told swept f; memory = placeFit item f (removeOldest (r .gone) m) } ≡ placeAnew most clock item told swept m
-    unfolding placeAnew searched placedBy evicted forcedBy memoryOf
+    unfolding placeAnew searched ifRoom placedBy evicted forcedBy memoryOf
     work-is told swept f e = rw (sym e, c .fit, c .ran, c .gone, c .live)
 
-    -- no place: only the rounds are gone
-    pub refused-does : (told : Outcome) (swept : ℕ) (a : Answer) → r .fit ≡ Nowhere → a ≡ record { rounds = r .ran; removed = swept + r .gone; forced = false; stale = false; outcome = NoMemory } → Does (placeAnew most clock item told swept m) (length dir) a dir₁ pool₁
+    -- no place: nothing is gone by rounds
+    pub refused-does : (told : Outcome) (swept : ℕ) (a : Answer) → r .fit ≡ Nowhere → a ≡ record { rounds = 0; removed = swept + r .gone; forced = false; stale = false; outcome = NoMemory } → Does (placeAnew most clock item told swept m) (length dir) a dir₁ pool₁
     unfolding fitOutcome placeFit isPlaced
-    refused-does told swept a e q = subst (λ (w : Work). Does w (length dir) a dir₁ pool₁) (work-is told swept Nowhere e) (record { answer = q; memory = h })
+    refused-does told swept a e q =
+        let z : r .ran ≡ 0 = c .ran ∙ no-room p (sym (c .fit) ∙ e) in
+        subst (λ (w : Work). Does w (length dir) a dir₁ pool₁) (work-is told swept Nowhere e) (record { answer = q ∙ rw z; memory = h })
 
     -- a place: the entry is stored there too
     pub placed-does : (told : Outcome) (swept : ℕ) (a : Answer) (start : ℕ) {dir₂ pool₂ : List ℕ} → r .fit ≡ Start start → Holds (length dir₁) (placeAt item start (memoryOf dir₁ pool₁)) dir₂ pool₂ → a ≡ record { rounds = r .ran; removed = swept + r .gone; forced = r .live; stale = false; outcome = told } → Does (placeAnew most clock item told swept m) (length dir) a dir₂ pool₂

@@ -87,7 +87,7 @@ fn place_anew(
     let removed = order.removed + choice.gone;
     let Fit::Start(start) = fit else {
         return Answer {
-            rounds: choice.ran,
+            rounds: 0,
             removed,
             forced: false,
             stale: false,

@@ -15,17 +15,17 @@ use Rattle.rules.specs.Checks.{refuse, checkLengths, checkSound}
 use Rattle.rules.specs.Calls.{gave, call, freshWork, freshCall}
 
 -- make_fresh: 0, rounds 0, removed 0
-pub v001-make-fresh : freshCall (1 ∷ replicate 25 0) (replicate 128 7) ≡ gave (plain Done 0) (1 ∷ replicate 25 0) (replicate 128 7)
+pub v001-make-fresh : freshCall (1 ∷ replicate 13 0) (replicate 64 0) ≡ gave (plain Done 0) (1 ∷ replicate 13 0) (replicate 64 0)
 unfolding entriesOf decode rightLengths refuse checkLengths freshWork freshCall memoryOf encode flat call
 v001-make-fresh = refl
 
 -- make_fresh: 0, rounds 0, removed 0
-pub v002-make-fresh : freshCall (1 ∷ 2 ∷ 0 ∷ 1 ∷ 4294967295 ∷ 2 ∷ 3 ∷ 1 ∷ 144 ∷ 1 ∷ 5 ∷ 0 ∷ 40 ∷ 1 ∷ replicate 12 0) (replicate 40 107 ++ 1 ∷ replicate 19 120 ++ 7 ∷ 7 ∷ 7 ∷ 7 ∷ 97 ∷ 98 ∷ 99 ∷ 1 ∷ 213 ∷ replicate 6 0 ++ replicate 53 7) ≡ gave (plain Done 0) (1 ∷ replicate 25 0) (replicate 40 107 ++ 1 ∷ replicate 19 120 ++ 7 ∷ 7 ∷ 7 ∷ 7 ∷ 97 ∷ 98 ∷ 99 ∷ 1 ∷ 213 ∷ replicate 6 0 ++ replicate 53 7)
+pub v002-make-fresh : freshCall (1 ∷ 2 ∷ 74 ∷ 1 ∷ 4294967295 ∷ 2 ∷ 3 ∷ 1 ∷ 76 ∷ 3 ∷ 5 ∷ 0 ∷ 40 ∷ 8 ∷ replicate 12 0) (replicate 40 107 ++ 157 ∷ 60 ∷ replicate 6 255 ++ replicate 16 7 ++ 97 ∷ 98 ∷ 99 ∷ 1 ∷ replicate 60 7) ≡ gave (plain Done 0) (1 ∷ replicate 25 0) (replicate 40 107 ++ 157 ∷ 60 ∷ replicate 6 255 ++ replicate 16 7 ++ 97 ∷ 98 ∷ 99 ∷ 1 ∷ replicate 60 7)
 unfolding entriesOf decode rightLengths refuse checkLengths freshWork freshCall memoryOf encode flat call
 v002-make-fresh = refl
 
 -- make_fresh: 0, rounds 0, removed 0
-pub v003-make-fresh : freshCall (1 ∷ 1 ∷ 0 ∷ 1 ∷ 5 ∷ 0 ∷ 3 ∷ 1 ∷ replicate 18 0) (97 ∷ 98 ∷ 99 ∷ 1 ∷ replicate 62 120 ++ replicate 62 0) ≡ gave (plain Done 0) (1 ∷ replicate 25 0) (97 ∷ 98 ∷ 99 ∷ 1 ∷ replicate 62 120 ++ replicate 62 0)
+pub v003-make-fresh : freshCall (1 ∷ 1 ∷ 163 ∷ 4 ∷ 0 ∷ 0 ∷ 1 ∷ 95 ∷ replicate 18 0) (98 ∷ replicate 95 120 ++ replicate 32 7) ≡ gave (plain Done 0) (1 ∷ replicate 25 0) (98 ∷ replicate 95 120 ++ replicate 32 7)
 unfolding entriesOf decode rightLengths refuse checkLengths freshWork freshCall memoryOf encode flat call
 v003-make-fresh = refl
 
@@ -45,22 +45,22 @@ unfolding entriesOf decode rightLengths refuse checkLengths freshWork freshCall 
 v006-make-fresh = refl
 
 -- make_fresh: 0, rounds 0, removed 0
-pub v007-make-fresh : freshCall (1 ∷ 2 ∷ 0 ∷ 1 ∷ 5 ∷ 1 ∷ 1 ∷ 1 ∷ 90 ∷ 1 ∷ 5 ∷ 0 ∷ 2 ∷ 1 ∷ []) (97 ∷ 98 ∷ 1 ∷ replicate 29 0 ++ 97 ∷ 1 ∷ replicate 30 0) ≡ gave (plain Done 0) (1 ∷ replicate 13 0) (97 ∷ 98 ∷ 1 ∷ replicate 29 0 ++ 97 ∷ 1 ∷ replicate 30 0)
+pub v007-make-fresh : freshCall (1 ∷ 2 ∷ 1 ∷ 3 ∷ 4294967295 ∷ 0 ∷ 1 ∷ 8 ∷ 0 ∷ 1 ∷ 0 ∷ 3 ∷ 2 ∷ 1 ∷ replicate 12 0) (99 ∷ 148 ∷ 146 ∷ 254 ∷ replicate 5 255 ++ replicate 23 7 ++ 100 ∷ replicate 31 7 ++ 98 ∷ 85 ∷ 42 ∷ replicate 6 0 ++ replicate 23 7 ++ 97 ∷ 98 ∷ 1 ∷ replicate 29 7) ≡ gave (plain Done 0) (1 ∷ replicate 25 0) (99 ∷ 148 ∷ 146 ∷ 254 ∷ replicate 5 255 ++ replicate 23 7 ++ 100 ∷ replicate 31 7 ++ 98 ∷ 85 ∷ 42 ∷ replicate 6 0 ++ replicate 23 7 ++ 97 ∷ 98 ∷ 1 ∷ replicate 29 7)
 unfolding entriesOf decode rightLengths refuse checkLengths freshWork freshCall memoryOf encode flat call
 v007-make-fresh = refl
 
 -- make_fresh: 0, rounds 0, removed 0
-pub v008-make-fresh : freshCall (1 ∷ 2 ∷ 1 ∷ 3 ∷ 4294967295 ∷ 0 ∷ 1 ∷ 8 ∷ 0 ∷ 1 ∷ 0 ∷ 3 ∷ 2 ∷ 1 ∷ replicate 12 0) (99 ∷ 148 ∷ 146 ∷ 254 ∷ replicate 5 255 ++ replicate 23 7 ++ 100 ∷ replicate 31 7 ++ 98 ∷ 85 ∷ 42 ∷ replicate 6 0 ++ replicate 23 7 ++ 97 ∷ 98 ∷ 1 ∷ replicate 29 7) ≡ gave (plain Done 0) (1 ∷ replicate 25 0) (99 ∷ 148 ∷ 146 ∷ 254 ∷ replicate 5 255 ++ replicate 23 7 ++ 100 ∷ replicate 31 7 ++ 98 ∷ 85 ∷ 42 ∷ replicate 6 0 ++ replicate 23 7 ++ 97 ∷ 98 ∷ 1 ∷ replicate 29 7)
+pub v008-make-fresh : freshCall (1 ∷ 2 ∷ 0 ∷ 3 ∷ 4294967295 ∷ 1 ∷ 1 ∷ 8 ∷ 1 ∷ 4 ∷ 4294967295 ∷ 0 ∷ 1 ∷ 8 ∷ replicate 12 0) (100 ∷ replicate 31 120 ++ 97 ∷ 254 ∷ replicate 6 255 ++ 127 ∷ replicate 25 120 ++ replicate 62 7) ≡ gave (plain Done 0) (1 ∷ replicate 25 0) (100 ∷ replicate 31 120 ++ 97 ∷ 254 ∷ replicate 6 255 ++ 127 ∷ replicate 25 120 ++ replicate 62 7)
 unfolding entriesOf decode rightLengths refuse checkLengths freshWork freshCall memoryOf encode flat call
 v008-make-fresh = refl
 
--- make_fresh: 1, rounds 0, removed 0
-pub v009-make-fresh : freshCall (1 ∷ 1 ∷ 1 ∷ 4 ∷ 4294967295 ∷ 0 ∷ 3 ∷ 31 ∷ replicate 6 0) (97 ∷ 98 ∷ 99 ∷ replicate 31 120 ++ replicate 30 7 ++ 0 ∷ []) ≡ gave (plain NotSound 0) (1 ∷ 1 ∷ 1 ∷ 4 ∷ 4294967295 ∷ 0 ∷ 3 ∷ 31 ∷ replicate 6 0) (97 ∷ 98 ∷ 99 ∷ replicate 31 120 ++ replicate 30 7 ++ 0 ∷ [])
+-- make_fresh: 0, rounds 0, removed 0
+pub v009-make-fresh : freshCall (1 ∷ 2 ∷ 1 ∷ 3 ∷ 4294967295 ∷ 1 ∷ 3 ∷ 8 ∷ 75 ∷ 4 ∷ 0 ∷ 0 ∷ 1 ∷ 8 ∷ replicate 12 0) (99 ∷ replicate 8 120 ++ replicate 23 0 ++ 97 ∷ 98 ∷ 99 ∷ 207 ∷ 251 ∷ replicate 91 0) ≡ gave (plain Done 0) (1 ∷ replicate 25 0) (99 ∷ replicate 8 120 ++ replicate 23 0 ++ 97 ∷ 98 ∷ 99 ∷ 207 ∷ 251 ∷ replicate 91 0)
 unfolding entriesOf decode rightLengths refuse checkLengths freshWork freshCall memoryOf encode flat call
 v009-make-fresh = refl
 
--- make_fresh: 0, rounds 0, removed 0
-pub v010-make-fresh : freshCall (1 ∷ 2 ∷ 0 ∷ 3 ∷ 4294967295 ∷ 1 ∷ 1 ∷ 8 ∷ 117 ∷ 3 ∷ 5 ∷ 0 ∷ 2 ∷ 8 ∷ replicate 12 0) (98 ∷ 97 ∷ 30 ∷ 239 ∷ 254 ∷ replicate 5 255 ++ replicate 22 0 ++ 98 ∷ replicate 7 255 ++ 127 ∷ replicate 87 0) ≡ gave (plain Done 0) (1 ∷ replicate 25 0) (98 ∷ 97 ∷ 30 ∷ 239 ∷ 254 ∷ replicate 5 255 ++ replicate 22 0 ++ 98 ∷ replicate 7 255 ++ 127 ∷ replicate 87 0)
+-- make_fresh: 1, rounds 0, removed 0
+pub v010-make-fresh : freshCall (1 ∷ 1 ∷ 0 ∷ 3 ∷ 0 ∷ 0 ∷ 3 ∷ 8 ∷ replicate 18 0) (97 ∷ 98 ∷ 99 ∷ 202 ∷ 7 ∷ replicate 6 0 ++ replicate 117 7 ++ 0 ∷ []) ≡ gave (plain NotSound 0) (1 ∷ 1 ∷ 0 ∷ 3 ∷ 0 ∷ 0 ∷ 3 ∷ 8 ∷ replicate 18 0) (97 ∷ 98 ∷ 99 ∷ 202 ∷ 7 ∷ replicate 6 0 ++ replicate 117 7 ++ 0 ∷ [])
 unfolding entriesOf decode rightLengths refuse checkLengths freshWork freshCall memoryOf encode flat call
 v010-make-fresh = refl
 
@@ -75,87 +75,87 @@ unfolding entriesOf decode holds held freeRun every any rightLengths valueFits e
 v012-audit = refl
 
 -- audit: yes
-pub v013-audit : audit (1 ∷ 1 ∷ 0 ∷ 4 ∷ 5 ∷ 0 ∷ 1 ∷ 60 ∷ replicate 18 0) (100 ∷ replicate 60 120 ++ replicate 67 7) ≡ true
+pub v013-audit : audit (1 ∷ replicate 13 0) (replicate 64 0) ≡ true
 unfolding entriesOf decode holds held freeRun every any rightLengths valueFits entrySound noneShared sound refuse checkSound same keyOf keyIs keysDiffer audit
 v013-audit = refl
 
 -- audit: yes
-pub v014-audit : audit (1 ∷ 2 ∷ 0 ∷ 3 ∷ 5 ∷ 1 ∷ 2 ∷ 8 ∷ 136 ∷ 3 ∷ 4294967295 ∷ 0 ∷ 1 ∷ 8 ∷ replicate 12 0) (99 ∷ 100 ∷ 101 ∷ 1 ∷ replicate 5 0 ++ replicate 23 7 ++ 97 ∷ 98 ∷ 175 ∷ 108 ∷ 1 ∷ replicate 5 0 ++ replicate 86 7) ≡ true
+pub v014-audit : audit (1 ∷ 4 ∷ 85 ∷ 3 ∷ 0 ∷ 3 ∷ 2 ∷ 8 ∷ 0 ∷ 3 ∷ 0 ∷ 2 ∷ 2 ∷ 8 ∷ 0 ∷ 3 ∷ 5 ∷ 1 ∷ 1 ∷ 8 ∷ 0 ∷ 3 ∷ 5 ∷ 0 ∷ 3 ∷ 8 ∷ []) (97 ∷ 98 ∷ 99 ∷ 16 ∷ 150 ∷ 254 ∷ replicate 5 255 ++ replicate 21 7 ++ 99 ∷ 169 ∷ 31 ∷ 149 ∷ 10 ∷ 6 ∷ 194 ∷ 129 ∷ 33 ∷ replicate 8 7 ++ 39 ∷ replicate 14 7 ++ 97 ∷ 98 ∷ 168 ∷ 251 ∷ 254 ∷ replicate 5 255 ++ replicate 22 7 ++ 98 ∷ 97 ∷ 1 ∷ replicate 6 0 ++ 128 ∷ replicate 22 7) ≡ true
 unfolding entriesOf decode holds held freeRun every any rightLengths valueFits entrySound noneShared sound refuse checkSound same keyOf keyIs keysDiffer audit
 v014-audit = refl
 
--- audit: no
-pub v015-audit : audit (1 ∷ 0 ∷ 0 ∷ 0 ∷ 11336325902078173497 ∷ replicate 21 0) (replicate 128 0) ≡ false
+-- audit: yes
+pub v015-audit : audit (1 ∷ 3 ∷ 140 ∷ 4 ∷ 4294967295 ∷ 2 ∷ 1 ∷ 40 ∷ 129 ∷ 1 ∷ 4294967295 ∷ 1 ∷ 3 ∷ 1 ∷ 0 ∷ 3 ∷ 0 ∷ 0 ∷ 2 ∷ 8 ∷ replicate 6 0) (97 ∷ 98 ∷ replicate 30 0 ++ 97 ∷ 98 ∷ 99 ∷ 1 ∷ replicate 28 0 ++ 100 ∷ replicate 40 120 ++ replicate 23 0) ≡ true
 unfolding entriesOf decode holds held freeRun every any rightLengths valueFits entrySound noneShared sound refuse checkSound same keyOf keyIs keysDiffer audit
 v015-audit = refl
 
 -- audit: no
-pub v016-audit : audit (1 ∷ 1 ∷ 125 ∷ 2 ∷ 5 ∷ 0 ∷ 1 ∷ 8 ∷ replicate 18 0) (97 ∷ 1 ∷ replicate 6 0 ++ 128 ∷ replicate 119 7) ≡ false
+pub v016-audit : audit (1 ∷ 2 ∷ 143 ∷ 4 ∷ 0 ∷ 1 ∷ 3 ∷ 0 ∷ 0 ∷ 1 ∷ 5 ∷ 0 ∷ 2 ∷ 1 ∷ replicate 12 0) (98 ∷ 97 ∷ 1 ∷ 90 ∷ replicate 6 0 ++ replicate 22 7 ++ 97 ∷ 98 ∷ 99 ∷ replicate 93 7 ++ 0 ∷ []) ≡ false
 unfolding entriesOf decode holds held freeRun every any rightLengths valueFits entrySound noneShared sound refuse checkSound same keyOf keyIs keysDiffer audit
 v016-audit = refl
 
--- audit: yes
-pub v017-audit : audit (1 ∷ replicate 13 0) (replicate 64 0) ≡ true
+-- audit: no
+pub v017-audit : audit (1 ∷ 1 ∷ 0 ∷ 3 ∷ 4294967295 ∷ 0 ∷ 1 ∷ 8 ∷ 0 ∷ []) (99 ∷ 166 ∷ 83 ∷ 1 ∷ replicate 5 0 ++ 127 ∷ replicate 22 0) ≡ false
 unfolding entriesOf decode holds held freeRun every any rightLengths valueFits entrySound noneShared sound refuse checkSound same keyOf keyIs keysDiffer audit
 v017-audit = refl
 
 -- audit: yes
-pub v018-audit : audit (1 ∷ 3 ∷ 0 ∷ 3 ∷ 0 ∷ 2 ∷ 1 ∷ 8 ∷ 0 ∷ 3 ∷ 0 ∷ 1 ∷ 1 ∷ 8 ∷ 148 ∷ 1 ∷ 0 ∷ 0 ∷ 2 ∷ 1 ∷ replicate 6 0) (98 ∷ 97 ∷ 1 ∷ replicate 29 7 ++ 99 ∷ 1 ∷ replicate 7 0 ++ replicate 23 7 ++ 98 ∷ 180 ∷ 12 ∷ 242 ∷ 140 ∷ 43 ∷ 225 ∷ 31 ∷ 211 ∷ replicate 55 7) ≡ true
+pub v018-audit : audit (1 ∷ 2 ∷ 97 ∷ 3 ∷ 5 ∷ 2 ∷ 2 ∷ 8 ∷ 0 ∷ 4 ∷ 0 ∷ 0 ∷ 2 ∷ 60 ∷ replicate 12 0) (97 ∷ 98 ∷ replicate 60 120 ++ 7 ∷ 7 ∷ 98 ∷ 97 ∷ 1 ∷ replicate 7 0 ++ replicate 54 7) ≡ true
 unfolding entriesOf decode holds held freeRun every any rightLengths valueFits entrySound noneShared sound refuse checkSound same keyOf keyIs keysDiffer audit
 v018-audit = refl
 
--- audit: yes
-pub v019-audit : audit (1 ∷ 3 ∷ 140 ∷ 4 ∷ 4294967295 ∷ 2 ∷ 1 ∷ 40 ∷ 129 ∷ 1 ∷ 4294967295 ∷ 1 ∷ 3 ∷ 1 ∷ 0 ∷ 3 ∷ 0 ∷ 0 ∷ 2 ∷ 8 ∷ replicate 6 0) (97 ∷ 98 ∷ replicate 30 0 ++ 97 ∷ 98 ∷ 99 ∷ 1 ∷ replicate 28 0 ++ 100 ∷ replicate 40 120 ++ replicate 23 0) ≡ true
+-- audit: no
+pub v019-audit : audit (2 ∷ replicate 25 0) (replicate 128 7) ≡ false
 unfolding entriesOf decode holds held freeRun every any rightLengths valueFits entrySound noneShared sound refuse checkSound same keyOf keyIs keysDiffer audit
 v019-audit = refl
 
 -- audit: yes
-pub v020-audit : audit (1 ∷ 3 ∷ 132 ∷ 1 ∷ 5 ∷ 2 ∷ 2 ∷ 1 ∷ 1 ∷ 3 ∷ 0 ∷ 1 ∷ 1 ∷ 8 ∷ 0 ∷ 3 ∷ 4294967295 ∷ 0 ∷ 1 ∷ 8 ∷ replicate 6 0) (98 ∷ 172 ∷ 99 ∷ replicate 6 0 ++ replicate 23 7 ++ 99 ∷ 221 ∷ 132 ∷ 254 ∷ replicate 5 255 ++ replicate 23 7 ++ 97 ∷ 98 ∷ 1 ∷ replicate 61 7) ≡ true
+pub v020-audit : audit (1 ∷ 2 ∷ 127 ∷ 3 ∷ 4294967295 ∷ 0 ∷ 1 ∷ 8 ∷ 1 ∷ 4 ∷ 4294967295 ∷ 1 ∷ 1 ∷ 20 ∷ []) (98 ∷ 7 ∷ 105 ∷ 1 ∷ replicate 5 0 ++ replicate 23 120 ++ 97 ∷ replicate 20 120 ++ replicate 11 0) ≡ true
 unfolding entriesOf decode holds held freeRun every any rightLengths valueFits entrySound noneShared sound refuse checkSound same keyOf keyIs keysDiffer audit
 v020-audit = refl
 
--- audit: no
-pub v021-audit : audit (1 ∷ 2 ∷ 120 ∷ 4 ∷ 0 ∷ 1 ∷ 3 ∷ 0 ∷ 0 ∷ 1 ∷ 5 ∷ 0 ∷ 2 ∷ 1 ∷ replicate 12 0) (98 ∷ 97 ∷ 1 ∷ 90 ∷ replicate 28 0 ++ 97 ∷ 98 ∷ 99 ∷ replicate 94 0) ≡ false
+-- audit: yes
+pub v021-audit : audit (1 ∷ 2 ∷ 1 ∷ 3 ∷ 4294967295 ∷ 0 ∷ 1 ∷ 8 ∷ 0 ∷ 1 ∷ 4294967295 ∷ 1 ∷ 2 ∷ 1 ∷ replicate 12 0) (97 ∷ 160 ∷ 3 ∷ 1 ∷ replicate 5 0 ++ 255 ∷ 255 ∷ replicate 21 7 ++ 98 ∷ 97 ∷ 1 ∷ replicate 93 7) ≡ true
 unfolding entriesOf decode holds held freeRun every any rightLengths valueFits entrySound noneShared sound refuse checkSound same keyOf keyIs keysDiffer audit
 v021-audit = refl
 
 -- audit: yes
-pub v022-audit : audit (1 ∷ 2 ∷ 127 ∷ 3 ∷ 4294967295 ∷ 1 ∷ 1 ∷ 8 ∷ 1 ∷ 4 ∷ 4294967295 ∷ 0 ∷ 1 ∷ 20 ∷ []) (97 ∷ replicate 20 120 ++ replicate 11 0 ++ 98 ∷ 7 ∷ 105 ∷ 1 ∷ replicate 5 0 ++ replicate 23 120) ≡ true
+pub v022-audit : audit (1 ∷ 2 ∷ 1 ∷ 3 ∷ 4294967295 ∷ 1 ∷ 1 ∷ 8 ∷ 1 ∷ 3 ∷ 5 ∷ 0 ∷ 1 ∷ 8 ∷ []) (100 ∷ 254 ∷ replicate 6 255 ++ 127 ∷ replicate 23 120 ++ 98 ∷ 196 ∷ 217 ∷ replicate 6 255 ++ replicate 23 0) ≡ true
 unfolding entriesOf decode holds held freeRun every any rightLengths valueFits entrySound noneShared sound refuse checkSound same keyOf keyIs keysDiffer audit
 v022-audit = refl
 
 -- audit: yes
-pub v023-audit : audit (1 ∷ 4 ∷ 127 ∷ 4 ∷ 5 ∷ 1 ∷ 2 ∷ 8 ∷ 109 ∷ 3 ∷ 0 ∷ 0 ∷ 1 ∷ 8 ∷ 0 ∷ 4 ∷ 4294967295 ∷ 3 ∷ 1 ∷ 30 ∷ 1 ∷ 1 ∷ 4294967295 ∷ 2 ∷ 1 ∷ 1 ∷ []) (98 ∷ 54 ∷ 140 ∷ 252 ∷ 234 ∷ 103 ∷ 60 ∷ 79 ∷ 90 ∷ replicate 23 0 ++ 98 ∷ 97 ∷ replicate 8 120 ++ 128 ∷ replicate 21 0 ++ 99 ∷ 1 ∷ replicate 30 0 ++ 97 ∷ replicate 30 120 ++ 0 ∷ []) ≡ true
+pub v023-audit : audit (1 ∷ 3 ∷ 143 ∷ 4 ∷ 0 ∷ 2 ∷ 2 ∷ 8 ∷ 0 ∷ 3 ∷ 0 ∷ 1 ∷ 1 ∷ 8 ∷ 113 ∷ 3 ∷ 5 ∷ 0 ∷ 1 ∷ 8 ∷ replicate 6 0) (98 ∷ 1 ∷ replicate 6 0 ++ 128 ∷ replicate 12 120 ++ replicate 11 0 ++ 100 ∷ 254 ∷ replicate 6 255 ++ 127 ∷ replicate 23 0 ++ 98 ∷ 97 ∷ replicate 8 120 ++ replicate 54 0) ≡ true
 unfolding entriesOf decode holds held freeRun every any rightLengths valueFits entrySound noneShared sound refuse checkSound same keyOf keyIs keysDiffer audit
 v023-audit = refl
 
 -- audit: no
-pub v024-audit : audit (1 ∷ 4 ∷ 0 ∷ 4 ∷ 0 ∷ 3 ∷ 2 ∷ 30 ∷ 0 ∷ 1 ∷ 5 ∷ 2 ∷ 1 ∷ 1 ∷ 0 ∷ 1 ∷ 4294967295 ∷ 1 ∷ 3 ∷ 1 ∷ 0 ∷ 4 ∷ 5 ∷ 0 ∷ 2 ∷ 20 ∷ []) (98 ∷ 97 ∷ replicate 20 120 ++ replicate 10 0 ++ 97 ∷ 98 ∷ 99 ∷ 1 ∷ replicate 28 0 ++ 98 ∷ 1 ∷ replicate 30 0 ++ 98 ∷ 97 ∷ replicate 30 120) ≡ false
+pub v024-audit : audit (1 ∷ 2 ∷ 1 ∷ 3 ∷ 4294967295 ∷ 1 ∷ 2 ∷ 8 ∷ 0 ∷ 3 ∷ 5 ∷ 0 ∷ 2 ∷ 8 ∷ replicate 12 0) (98 ∷ 97 ∷ 91 ∷ 170 ∷ 254 ∷ replicate 5 255 ++ replicate 22 7 ++ 98 ∷ 97 ∷ 120 ∷ 254 ∷ 254 ∷ replicate 5 255 ++ replicate 86 7) ≡ false
 unfolding entriesOf decode holds held freeRun every any rightLengths valueFits entrySound noneShared sound refuse checkSound same keyOf keyIs keysDiffer audit
 v024-audit = refl
 
 -- audit: no
-pub v025-audit : audit (1 ∷ 3 ∷ 0 ∷ 1 ∷ 0 ∷ 2 ∷ 2 ∷ 1 ∷ 1 ∷ 3 ∷ 0 ∷ 1 ∷ 1 ∷ 8 ∷ 0 ∷ 4 ∷ 4294967295 ∷ 0 ∷ 2 ∷ 8 ∷ replicate 6 0) (98 ∷ 97 ∷ replicate 8 120 ++ replicate 22 7 ++ 98 ∷ 253 ∷ 167 ∷ 254 ∷ replicate 5 255 ++ replicate 23 7 ++ 98 ∷ 97 ∷ 1 ∷ replicate 61 7) ≡ false
+pub v025-audit : audit (1 ∷ 2 ∷ 102 ∷ 4 ∷ 5 ∷ 1 ∷ 1 ∷ 20 ∷ 118 ∷ 3 ∷ 5 ∷ 0 ∷ 1 ∷ 8 ∷ replicate 12 0) (98 ∷ 204 ∷ 62 ∷ replicate 6 0 ++ replicate 23 7 ++ 98 ∷ replicate 20 120 ++ replicate 75 7) ≡ false
 unfolding entriesOf decode holds held freeRun every any rightLengths valueFits entrySound noneShared sound refuse checkSound same keyOf keyIs keysDiffer audit
 v025-audit = refl
 
 -- audit: no
-pub v026-audit : audit (1 ∷ 2 ∷ 124 ∷ 3 ∷ 0 ∷ 0 ∷ 1 ∷ 8 ∷ 130 ∷ 1 ∷ 5 ∷ 1 ∷ 1 ∷ 1 ∷ replicate 12 0) (97 ∷ 1 ∷ replicate 6 0 ++ 128 ∷ replicate 23 0 ++ 97 ∷ 1 ∷ replicate 94 0) ≡ false
+pub v026-audit : audit (1 ∷ 4 ∷ 102 ∷ 4 ∷ 4294967295 ∷ 3 ∷ 1 ∷ 0 ∷ 0 ∷ 3 ∷ 0 ∷ 2 ∷ 1 ∷ 8 ∷ 157 ∷ 3 ∷ 4294967295 ∷ 1 ∷ 2 ∷ 8 ∷ 0 ∷ 1 ∷ 4294967295 ∷ 0 ∷ 1 ∷ 1 ∷ []) (100 ∷ 1 ∷ 217 ∷ replicate 6 255 ++ replicate 23 0 ++ 97 ∷ 98 ∷ 128 ∷ 90 ∷ replicate 6 255 ++ replicate 22 0 ++ 97 ∷ 68 ∷ 128 ∷ 205 ∷ 200 ∷ 241 ∷ 153 ∷ 95 ∷ 253 ∷ replicate 23 0 ++ 100 ∷ replicate 31 0) ≡ false
 unfolding entriesOf decode holds held freeRun every any rightLengths valueFits entrySound noneShared sound refuse checkSound same keyOf keyIs keysDiffer audit
 v026-audit = refl
 
 -- audit: no
-pub v027-audit : audit (1 ∷ 3 ∷ 133 ∷ 1 ∷ 4294967295 ∷ 3 ∷ 1 ∷ 1 ∷ 121 ∷ 4 ∷ 4294967295 ∷ 1 ∷ 3 ∷ 30 ∷ 0 ∷ 3 ∷ 0 ∷ 0 ∷ 1 ∷ 8 ∷ replicate 6 0) (99 ∷ replicate 8 255 ++ replicate 23 7 ++ 97 ∷ 98 ∷ 99 ∷ replicate 30 120 ++ replicate 31 7 ++ 99 ∷ 1 ∷ replicate 30 7) ≡ false
+pub v027-audit : audit (1 ∷ 2 ∷ 0 ∷ 3 ∷ 5 ∷ 1 ∷ 1 ∷ 8 ∷ 0 ∷ 1 ∷ 0 ∷ 0 ∷ 1 ∷ 1 ∷ replicate 12 0) (100 ∷ 1 ∷ replicate 30 0 ++ 100 ∷ 220 ∷ 154 ∷ 254 ∷ replicate 5 255 ++ replicate 87 0) ≡ false
 unfolding entriesOf decode holds held freeRun every any rightLengths valueFits entrySound noneShared sound refuse checkSound same keyOf keyIs keysDiffer audit
 v027-audit = refl
 
 -- audit: no
-pub v028-audit : audit (1 ∷ 2 ∷ 124 ∷ 1 ∷ 4294967295 ∷ 1 ∷ 1 ∷ 1 ∷ 120 ∷ 3 ∷ 5 ∷ 0 ∷ 1 ∷ 8 ∷ replicate 12 0) (100 ∷ 208 ∷ 166 ∷ 124 ∷ 164 ∷ 191 ∷ 75 ∷ 57 ∷ 73 ∷ replicate 23 0 ++ 100 ∷ 1 ∷ replicate 94 0) ≡ false
+pub v028-audit : audit (1 ∷ 2 ∷ 124 ∷ 3 ∷ 0 ∷ 0 ∷ 1 ∷ 8 ∷ 130 ∷ 1 ∷ 5 ∷ 1 ∷ 1 ∷ 1 ∷ replicate 12 0) (97 ∷ 1 ∷ replicate 6 0 ++ 128 ∷ replicate 23 0 ++ 97 ∷ 1 ∷ replicate 94 0) ≡ false
 unfolding entriesOf decode holds held freeRun every any rightLengths valueFits entrySound noneShared sound refuse checkSound same keyOf keyIs keysDiffer audit
 v028-audit = refl
 
 -- audit: no
-pub v029-audit : audit (1 ∷ 2 ∷ 116 ∷ 3 ∷ 0 ∷ 1 ∷ 1 ∷ 8 ∷ 0 ∷ 1 ∷ 5 ∷ 0 ∷ 1 ∷ 1 ∷ replicate 12 0) (100 ∷ 1 ∷ replicate 30 0 ++ 100 ∷ replicate 95 0) ≡ false
+pub v029-audit : audit (1 ∷ 2 ∷ 99 ∷ 1 ∷ 4294967295 ∷ 2 ∷ 1 ∷ 1 ∷ 1 ∷ 4 ∷ 5 ∷ 0 ∷ 1 ∷ 60 ∷ replicate 12 0) (100 ∷ replicate 60 120 ++ 7 ∷ 7 ∷ 7 ∷ 100 ∷ 1 ∷ replicate 62 7) ≡ false
 unfolding entriesOf decode holds held freeRun every any rightLengths valueFits entrySound noneShared sound refuse checkSound same keyOf keyIs keysDiffer audit
 v029-audit = refl
 

@@ -26,88 +26,88 @@ pub v062-get : getCall (1 ∷ 3 ∷ 120 ∷ 1 ∷ 5 ∷ 2 ∷ 2 ∷ 1 ∷ 101 �
 unfolding entriesOf decode holds held freeRun every any rightLengths valueFits entrySound noneShared sound refuse checkSound _then_ checkClock clockChecks checkKey keyChecks memoryOf encode flat call dead same keyOf keyIs foundFrom lookUp deads without remove removeOldest sweepCount sweep afterSweep shown numberAt toFront moveToFront getFound getWork getCall
 v062-get = refl
 
--- get: 8, rounds 0, removed 0
-pub v063-get : getCall (1 ∷ replicate 25 0) (replicate 128 7) 73 (97 ∷ 98 ∷ 99 ∷ []) ≡ gave (plain NotFound 0) (1 ∷ replicate 25 0) (replicate 128 7)
+-- get: 1, rounds 0, removed 0
+pub v063-get : getCall (1 ∷ 1 ∷ 107 ∷ 3 ∷ 0 ∷ 0 ∷ 3 ∷ 8 ∷ 0 ∷ 1 ∷ 0 ∷ 0 ∷ 0 ∷ 0 ∷ []) (97 ∷ 98 ∷ 99 ∷ 202 ∷ 73 ∷ 1 ∷ replicate 58 0) 106 (97 ∷ []) ≡ gave (plain NotSound 0) (1 ∷ 1 ∷ 107 ∷ 3 ∷ 0 ∷ 0 ∷ 3 ∷ 8 ∷ 0 ∷ 1 ∷ 0 ∷ 0 ∷ 0 ∷ 0 ∷ []) (97 ∷ 98 ∷ 99 ∷ 202 ∷ 73 ∷ 1 ∷ replicate 58 0)
 unfolding entriesOf decode holds held freeRun every any rightLengths valueFits entrySound noneShared sound refuse checkSound _then_ checkClock clockChecks checkKey keyChecks memoryOf encode flat call dead same keyOf keyIs foundFrom lookUp deads without remove removeOldest sweepCount sweep afterSweep shown numberAt toFront moveToFront getFound getWork getCall
 v063-get = refl
 
--- get: 3, rounds 0, removed 0
-pub v064-get : getCall (1 ∷ 1 ∷ 0 ∷ 1 ∷ 5 ∷ 0 ∷ 1 ∷ 1 ∷ []) (97 ∷ 1 ∷ replicate 30 7) 116 [] ≡ gave (plain KeyEmpty 0) (1 ∷ 1 ∷ 0 ∷ 1 ∷ 5 ∷ 0 ∷ 1 ∷ 1 ∷ []) (97 ∷ 1 ∷ replicate 30 7)
+-- get: 1, rounds 0, removed 0
+pub v064-get : getCall (1 ∷ 1 ∷ 0 ∷ 4 ∷ 4294967295 ∷ 0 ∷ 3 ∷ 31 ∷ replicate 18 0) [] 142 (98 ∷ 97 ∷ []) ≡ gave (plain NotSound 0) (1 ∷ 1 ∷ 0 ∷ 4 ∷ 4294967295 ∷ 0 ∷ 3 ∷ 31 ∷ replicate 18 0) []
 unfolding entriesOf decode holds held freeRun every any rightLengths valueFits entrySound noneShared sound refuse checkSound _then_ checkClock clockChecks checkKey keyChecks memoryOf encode flat call dead same keyOf keyIs foundFrom lookUp deads without remove removeOldest sweepCount sweep afterSweep shown numberAt toFront moveToFront getFound getWork getCall
 v064-get = refl
 
 -- get: 8, rounds 0, removed 1
-pub v065-get : getCall (1 ∷ 1 ∷ 105 ∷ 3 ∷ 0 ∷ 0 ∷ 3 ∷ 8 ∷ []) (97 ∷ 98 ∷ 99 ∷ 201 ∷ 7 ∷ replicate 6 0 ++ replicate 21 7) 155 (97 ∷ 98 ∷ 99 ∷ []) ≡ gave (plain NotFound 1) (1 ∷ replicate 7 0) (97 ∷ 98 ∷ 99 ∷ 201 ∷ 7 ∷ replicate 6 0 ++ replicate 21 7)
+pub v065-get : getCall (1 ∷ 1 ∷ 121 ∷ 4 ∷ 5 ∷ 0 ∷ 1 ∷ 0 ∷ []) (99 ∷ 97 ∷ 86 ∷ 0 ∷ 1 ∷ replicate 5 0 ++ replicate 22 7) 135 (100 ∷ []) ≡ gave (plain NotFound 1) (1 ∷ replicate 7 0) (99 ∷ 97 ∷ 86 ∷ 0 ∷ 1 ∷ replicate 5 0 ++ replicate 22 7)
 unfolding entriesOf decode holds held freeRun every any rightLengths valueFits entrySound noneShared sound refuse checkSound _then_ checkClock clockChecks checkKey keyChecks memoryOf encode flat call dead same keyOf keyIs foundFrom lookUp deads without remove removeOldest sweepCount sweep afterSweep shown numberAt toFront moveToFront getFound getWork getCall
 v065-get = refl
 
--- get: 1, rounds 0, removed 0
-pub v066-get : getCall (1 ∷ 1 ∷ 155 ∷ 4 ∷ 0 ∷ 0 ∷ 2 ∷ 30 ∷ []) (97 ∷ 98 ∷ replicate 30 120 ++ 0 ∷ []) 95 (98 ∷ []) ≡ gave (plain NotSound 0) (1 ∷ 1 ∷ 155 ∷ 4 ∷ 0 ∷ 0 ∷ 2 ∷ 30 ∷ []) (97 ∷ 98 ∷ replicate 30 120 ++ 0 ∷ [])
+-- get: 8, rounds 0, removed 0
+pub v066-get : getCall (1 ∷ replicate 13 0) (replicate 64 7) 142 (98 ∷ 97 ∷ []) ≡ gave (plain NotFound 0) (1 ∷ replicate 13 0) (replicate 64 7)
 unfolding entriesOf decode holds held freeRun every any rightLengths valueFits entrySound noneShared sound refuse checkSound _then_ checkClock clockChecks checkKey keyChecks memoryOf encode flat call dead same keyOf keyIs foundFrom lookUp deads without remove removeOldest sweepCount sweep afterSweep shown numberAt toFront moveToFront getFound getWork getCall
 v066-get = refl
 
--- get: 8, rounds 0, removed 2
-pub v067-get : getCall (1 ∷ 2 ∷ 162 ∷ 1 ∷ 5 ∷ 1 ∷ 2 ∷ 1 ∷ 153 ∷ 1 ∷ 5 ∷ 0 ∷ 1 ∷ 1 ∷ []) (99 ∷ 1 ∷ 33 ∷ 1 ∷ replicate 5 0 ++ replicate 23 7 ++ 97 ∷ 98 ∷ 1 ∷ replicate 29 7) 18446744073709551615 (98 ∷ 97 ∷ []) ≡ gave (plain NotFound 2) (1 ∷ replicate 13 0) (99 ∷ 1 ∷ 33 ∷ 1 ∷ replicate 5 0 ++ replicate 23 7 ++ 97 ∷ 98 ∷ 1 ∷ replicate 29 7)
+-- get: 0, rounds 0, removed 0
+pub v067-get : getCall (1 ∷ 1 ∷ 0 ∷ 4 ∷ 0 ∷ 0 ∷ 2 ∷ 30 ∷ replicate 6 0) (98 ∷ 97 ∷ replicate 60 120 ++ 0 ∷ 0 ∷ []) 165 (98 ∷ 97 ∷ []) ≡ gave (plain (Text 0 2 30) 0) (1 ∷ 1 ∷ 0 ∷ 4 ∷ 0 ∷ 0 ∷ 2 ∷ 30 ∷ replicate 6 0) (98 ∷ 97 ∷ replicate 60 120 ++ 0 ∷ 0 ∷ [])
 unfolding entriesOf decode holds held freeRun every any rightLengths valueFits entrySound noneShared sound refuse checkSound _then_ checkClock clockChecks checkKey keyChecks memoryOf encode flat call dead same keyOf keyIs foundFrom lookUp deads without remove removeOldest sweepCount sweep afterSweep shown numberAt toFront moveToFront getFound getWork getCall
 v067-get = refl
 
--- get: 1, rounds 0, removed 0
-pub v068-get : getCall (1 ∷ 1 ∷ 17165306631676173221 ∷ 15167396279578144814 ∷ 11628298392181630130 ∷ 14304632405711956664 ∷ 16816162087720549450 ∷ 17453505284768676102 ∷ replicate 18 0) (98 ∷ 97 ∷ replicate 8 120 ++ replicate 118 7) 69 (97 ∷ 98 ∷ []) ≡ gave (plain NotSound 0) (1 ∷ 1 ∷ 17165306631676173221 ∷ 15167396279578144814 ∷ 11628298392181630130 ∷ 14304632405711956664 ∷ 16816162087720549450 ∷ 17453505284768676102 ∷ replicate 18 0) (98 ∷ 97 ∷ replicate 8 120 ++ replicate 118 7)
+-- get: 8, rounds 0, removed 1
+pub v068-get : getCall (1 ∷ 1 ∷ 98 ∷ 1 ∷ 0 ∷ 0 ∷ 2 ∷ 1 ∷ []) (98 ∷ 97 ∷ 1 ∷ replicate 8 120 ++ replicate 21 0) 98 (98 ∷ 97 ∷ []) ≡ gave (plain NotFound 1) (1 ∷ replicate 7 0) (98 ∷ 97 ∷ 1 ∷ replicate 8 120 ++ replicate 21 0)
 unfolding entriesOf decode holds held freeRun every any rightLengths valueFits entrySound noneShared sound refuse checkSound _then_ checkClock clockChecks checkKey keyChecks memoryOf encode flat call dead same keyOf keyIs foundFrom lookUp deads without remove removeOldest sweepCount sweep afterSweep shown numberAt toFront moveToFront getFound getWork getCall
 v068-get = refl
 
--- get: 0, rounds 0, removed 0
-pub v069-get : getCall (1 ∷ 1 ∷ 0 ∷ 4 ∷ 0 ∷ 0 ∷ 2 ∷ 30 ∷ replicate 6 0) (98 ∷ 97 ∷ replicate 60 120 ++ 0 ∷ 0 ∷ []) 165 (98 ∷ 97 ∷ []) ≡ gave (plain (Text 0 2 30) 0) (1 ∷ 1 ∷ 0 ∷ 4 ∷ 0 ∷ 0 ∷ 2 ∷ 30 ∷ replicate 6 0) (98 ∷ 97 ∷ replicate 60 120 ++ 0 ∷ 0 ∷ [])
+-- get: 3, rounds 0, removed 0
+pub v069-get : getCall (1 ∷ 1 ∷ 97 ∷ 1 ∷ 5 ∷ 0 ∷ 1 ∷ 1 ∷ []) (99 ∷ 1 ∷ replicate 30 0) 111 [] ≡ gave (plain KeyEmpty 0) (1 ∷ 1 ∷ 97 ∷ 1 ∷ 5 ∷ 0 ∷ 1 ∷ 1 ∷ []) (99 ∷ 1 ∷ replicate 30 0)
 unfolding entriesOf decode holds held freeRun every any rightLengths valueFits entrySound noneShared sound refuse checkSound _then_ checkClock clockChecks checkKey keyChecks memoryOf encode flat call dead same keyOf keyIs foundFrom lookUp deads without remove removeOldest sweepCount sweep afterSweep shown numberAt toFront moveToFront getFound getWork getCall
 v069-get = refl
 
--- get: 2, rounds 0, removed 0
-pub v070-get : getCall (1 ∷ replicate 25 0) (replicate 128 0) 0 (99 ∷ []) ≡ gave (plain ClockZero 0) (1 ∷ replicate 25 0) (replicate 128 0)
+-- get: 0, rounds 0, removed 0
+pub v070-get : getCall (1 ∷ 3 ∷ 136 ∷ 4 ∷ 0 ∷ 0 ∷ 2 ∷ 30 ∷ 0 ∷ 3 ∷ 0 ∷ 2 ∷ 1 ∷ 8 ∷ 0 ∷ 4 ∷ 0 ∷ 1 ∷ 1 ∷ 30 ∷ replicate 6 0) (98 ∷ 97 ∷ replicate 30 120 ++ 99 ∷ replicate 30 120 ++ 0 ∷ 98 ∷ 109 ∷ 70 ∷ 229 ∷ 131 ∷ 220 ∷ 25 ∷ 175 ∷ 226 ∷ replicate 55 0) 156 (98 ∷ []) ≡ gave (plain (Number 0 (negsuc 2112441265317132690) 65) 0) (1 ∷ 3 ∷ 0 ∷ 3 ∷ 0 ∷ 2 ∷ 1 ∷ 8 ∷ 136 ∷ 4 ∷ 0 ∷ 0 ∷ 2 ∷ 30 ∷ 0 ∷ 4 ∷ 0 ∷ 1 ∷ 1 ∷ 30 ∷ replicate 6 0) (98 ∷ 97 ∷ replicate 30 120 ++ 99 ∷ replicate 30 120 ++ 0 ∷ 98 ∷ 109 ∷ 70 ∷ 229 ∷ 131 ∷ 220 ∷ 25 ∷ 175 ∷ 226 ∷ replicate 55 0)
 unfolding entriesOf decode holds held freeRun every any rightLengths valueFits entrySound noneShared sound refuse checkSound _then_ checkClock clockChecks checkKey keyChecks memoryOf encode flat call dead same keyOf keyIs foundFrom lookUp deads without remove removeOldest sweepCount sweep afterSweep shown numberAt toFront moveToFront getFound getWork getCall
 v070-get = refl
 
--- get: 0, rounds 0, removed 0
-pub v071-get : getCall (1 ∷ 1 ∷ 0 ∷ 3 ∷ 5 ∷ 0 ∷ 1 ∷ 8 ∷ replicate 6 0) (97 ∷ 142 ∷ 77 ∷ replicate 6 255 ++ replicate 31 107 ++ 1 ∷ replicate 23 0) 137 (97 ∷ []) ≡ gave (plain (Number 5 (negsuc 45681) 1) 0) (1 ∷ 1 ∷ 0 ∷ 3 ∷ 5 ∷ 0 ∷ 1 ∷ 8 ∷ replicate 6 0) (97 ∷ 142 ∷ 77 ∷ replicate 6 255 ++ replicate 31 107 ++ 1 ∷ replicate 23 0)
+-- get: 2, rounds 0, removed 0
+pub v071-get : getCall (1 ∷ replicate 7 0) (replicate 32 0) 0 (97 ∷ 98 ∷ 99 ∷ []) ≡ gave (plain ClockZero 0) (1 ∷ replicate 7 0) (replicate 32 0)
 unfolding entriesOf decode holds held freeRun every any rightLengths valueFits entrySound noneShared sound refuse checkSound _then_ checkClock clockChecks checkKey keyChecks memoryOf encode flat call dead same keyOf keyIs foundFrom lookUp deads without remove removeOldest sweepCount sweep afterSweep shown numberAt toFront moveToFront getFound getWork getCall
 v071-get = refl
 
 -- get: 0, rounds 0, removed 0
-pub v072-get : getCall (1 ∷ 2 ∷ 84 ∷ 4 ∷ 5 ∷ 1 ∷ 1 ∷ 1 ∷ 116 ∷ 1 ∷ 4294967295 ∷ 0 ∷ 2 ∷ 1 ∷ []) (98 ∷ 97 ∷ 1 ∷ replicate 29 120 ++ 98 ∷ 120 ∷ replicate 6 107 ++ 254 ∷ replicate 6 255 ++ 127 ∷ replicate 16 7) 104 (98 ∷ 97 ∷ []) ≡ gave (plain (Boolean 4294967295 true 2) 0) (1 ∷ 2 ∷ 116 ∷ 1 ∷ 4294967295 ∷ 0 ∷ 2 ∷ 1 ∷ 84 ∷ 4 ∷ 5 ∷ 1 ∷ 1 ∷ 1 ∷ []) (98 ∷ 97 ∷ 1 ∷ replicate 29 120 ++ 98 ∷ 120 ∷ replicate 6 107 ++ 254 ∷ replicate 6 255 ++ 127 ∷ replicate 16 7)
+pub v072-get : getCall (1 ∷ 1 ∷ 137 ∷ 3 ∷ 5 ∷ 0 ∷ 2 ∷ 8 ∷ replicate 6 0) (97 ∷ 98 ∷ 123 ∷ 128 ∷ 254 ∷ replicate 5 255 ++ replicate 24 120 ++ replicate 30 7) 107 (97 ∷ 98 ∷ []) ≡ gave (plain (Number 5 (negsuc 98180) 2) 0) (1 ∷ 1 ∷ 137 ∷ 3 ∷ 5 ∷ 0 ∷ 2 ∷ 8 ∷ replicate 6 0) (97 ∷ 98 ∷ 123 ∷ 128 ∷ 254 ∷ replicate 5 255 ++ replicate 24 120 ++ replicate 30 7)
 unfolding entriesOf decode holds held freeRun every any rightLengths valueFits entrySound noneShared sound refuse checkSound _then_ checkClock clockChecks checkKey keyChecks memoryOf encode flat call dead same keyOf keyIs foundFrom lookUp deads without remove removeOldest sweepCount sweep afterSweep shown numberAt toFront moveToFront getFound getWork getCall
 v072-get = refl
 
--- get: 8, rounds 0, removed 0
-pub v073-get : getCall (1 ∷ 2 ∷ 1 ∷ 1 ∷ 0 ∷ 1 ∷ 2 ∷ 1 ∷ 0 ∷ 1 ∷ 0 ∷ 0 ∷ 1 ∷ 1 ∷ []) (98 ∷ 1 ∷ replicate 30 7 ++ 98 ∷ 97 ∷ 1 ∷ replicate 29 7) 131 (98 ∷ 97 ∷ []) ≡ gave (plain NotFound 0) (1 ∷ 2 ∷ 1 ∷ 1 ∷ 0 ∷ 1 ∷ 2 ∷ 1 ∷ 0 ∷ 1 ∷ 0 ∷ 0 ∷ 1 ∷ 1 ∷ []) (98 ∷ 1 ∷ replicate 30 7 ++ 98 ∷ 97 ∷ 1 ∷ replicate 29 7)
+-- get: 0, rounds 0, removed 0
+pub v073-get : getCall (1 ∷ 1 ∷ 125 ∷ 1 ∷ 0 ∷ 0 ∷ 1 ∷ 1 ∷ []) (98 ∷ 1 ∷ 1 ∷ replicate 29 7) 115 (98 ∷ []) ≡ gave (plain (Boolean 0 true 1) 0) (1 ∷ 1 ∷ 125 ∷ 1 ∷ 0 ∷ 0 ∷ 1 ∷ 1 ∷ []) (98 ∷ 1 ∷ 1 ∷ replicate 29 7)
 unfolding entriesOf decode holds held freeRun every any rightLengths valueFits entrySound noneShared sound refuse checkSound _then_ checkClock clockChecks checkKey keyChecks memoryOf encode flat call dead same keyOf keyIs foundFrom lookUp deads without remove removeOldest sweepCount sweep afterSweep shown numberAt toFront moveToFront getFound getWork getCall
 v073-get = refl
 
--- get: 0, rounds 0, removed 0
-pub v074-get : getCall (1 ∷ 3 ∷ 135 ∷ 3 ∷ 4294967295 ∷ 0 ∷ 2 ∷ 8 ∷ 0 ∷ 4 ∷ 0 ∷ 2 ∷ 2 ∷ 8 ∷ 113 ∷ 3 ∷ 0 ∷ 1 ∷ 1 ∷ 8 ∷ replicate 6 0) (97 ∷ 98 ∷ 147 ∷ 18 ∷ replicate 28 0 ++ 97 ∷ 61 ∷ 189 ∷ 176 ∷ 176 ∷ 179 ∷ 204 ∷ 53 ∷ 79 ∷ replicate 23 0 ++ 98 ∷ 97 ∷ replicate 8 120 ++ replicate 54 0) 110 (98 ∷ 97 ∷ []) ≡ gave (plain (Text 0 66 8) 0) (1 ∷ 3 ∷ 0 ∷ 4 ∷ 0 ∷ 2 ∷ 2 ∷ 8 ∷ 135 ∷ 3 ∷ 4294967295 ∷ 0 ∷ 2 ∷ 8 ∷ 113 ∷ 3 ∷ 0 ∷ 1 ∷ 1 ∷ 8 ∷ replicate 6 0) (97 ∷ 98 ∷ 147 ∷ 18 ∷ replicate 28 0 ++ 97 ∷ 61 ∷ 189 ∷ 176 ∷ 176 ∷ 179 ∷ 204 ∷ 53 ∷ 79 ∷ replicate 23 0 ++ 98 ∷ 97 ∷ replicate 8 120 ++ replicate 54 0)
+-- get: 4, rounds 0, removed 0
+pub v074-get : getCall (1 ∷ replicate 7 0) (replicate 32 0) 91 (replicate 65536 107) ≡ gave (plain KeyTooLong 0) (1 ∷ replicate 7 0) (replicate 32 0)
 unfolding entriesOf decode holds held freeRun every any rightLengths valueFits entrySound noneShared sound refuse checkSound _then_ checkClock clockChecks checkKey keyChecks memoryOf encode flat call dead same keyOf keyIs foundFrom lookUp deads without remove removeOldest sweepCount sweep afterSweep shown numberAt toFront moveToFront getFound getWork getCall
 v074-get = refl
 
--- get: 8, rounds 0, removed 2
-pub v075-get : getCall (1 ∷ 3 ∷ 107 ∷ 4 ∷ 4294967295 ∷ 2 ∷ 1 ∷ 33 ∷ 107 ∷ 1 ∷ 0 ∷ 1 ∷ 3 ∷ 1 ∷ 113 ∷ 3 ∷ 4294967295 ∷ 0 ∷ 2 ∷ 8 ∷ replicate 6 0) (97 ∷ 98 ∷ 131 ∷ 253 ∷ replicate 28 0 ++ 97 ∷ 98 ∷ 99 ∷ 1 ∷ replicate 28 0 ++ 99 ∷ replicate 33 120 ++ replicate 30 0) 18446744073709551615 (97 ∷ 98 ∷ []) ≡ gave (plain NotFound 2) (1 ∷ 1 ∷ 107 ∷ 4 ∷ 4294967295 ∷ 2 ∷ 1 ∷ 33 ∷ replicate 18 0) (97 ∷ 98 ∷ 131 ∷ 253 ∷ replicate 28 0 ++ 97 ∷ 98 ∷ 99 ∷ 1 ∷ replicate 28 0 ++ 99 ∷ replicate 33 120 ++ replicate 30 0)
+-- get: 8, rounds 0, removed 0
+pub v075-get : getCall (1 ∷ 3 ∷ 145 ∷ 3 ∷ 5 ∷ 2 ∷ 1 ∷ 8 ∷ 1 ∷ 1 ∷ 4294967295 ∷ 1 ∷ 1 ∷ 1 ∷ 136 ∷ 1 ∷ 4294967295 ∷ 0 ∷ 1 ∷ 1 ∷ replicate 6 0) (98 ∷ 1 ∷ replicate 30 7 ++ 99 ∷ 1 ∷ replicate 30 7 ++ 97 ∷ 254 ∷ replicate 6 255 ++ 127 ∷ replicate 55 7) 135 (99 ∷ []) ≡ gave (plain NotFound 0) (1 ∷ 3 ∷ 145 ∷ 3 ∷ 5 ∷ 2 ∷ 1 ∷ 8 ∷ 1 ∷ 1 ∷ 4294967295 ∷ 1 ∷ 1 ∷ 1 ∷ 136 ∷ 1 ∷ 4294967295 ∷ 0 ∷ 1 ∷ 1 ∷ replicate 6 0) (98 ∷ 1 ∷ replicate 30 7 ++ 99 ∷ 1 ∷ replicate 30 7 ++ 97 ∷ 254 ∷ replicate 6 255 ++ 127 ∷ replicate 55 7)
 unfolding entriesOf decode holds held freeRun every any rightLengths valueFits entrySound noneShared sound refuse checkSound _then_ checkClock clockChecks checkKey keyChecks memoryOf encode flat call dead same keyOf keyIs foundFrom lookUp deads without remove removeOldest sweepCount sweep afterSweep shown numberAt toFront moveToFront getFound getWork getCall
 v075-get = refl
 
--- get: 4, rounds 0, removed 0
-pub v076-get : getCall (1 ∷ 3 ∷ 1 ∷ 1 ∷ 0 ∷ 0 ∷ 1 ∷ 1 ∷ 0 ∷ 4 ∷ 4294967295 ∷ 2 ∷ 1 ∷ 40 ∷ 99 ∷ 1 ∷ 0 ∷ 1 ∷ 1 ∷ 1 ∷ replicate 6 0) (100 ∷ 1 ∷ 183 ∷ 230 ∷ replicate 28 0 ++ 99 ∷ 1 ∷ replicate 30 0 ++ 97 ∷ replicate 40 120 ++ replicate 23 0) 93 (replicate 65536 107) ≡ gave (plain KeyTooLong 0) (1 ∷ 3 ∷ 1 ∷ 1 ∷ 0 ∷ 0 ∷ 1 ∷ 1 ∷ 0 ∷ 4 ∷ 4294967295 ∷ 2 ∷ 1 ∷ 40 ∷ 99 ∷ 1 ∷ 0 ∷ 1 ∷ 1 ∷ 1 ∷ replicate 6 0) (100 ∷ 1 ∷ 183 ∷ 230 ∷ replicate 28 0 ++ 99 ∷ 1 ∷ replicate 30 0 ++ 97 ∷ replicate 40 120 ++ replicate 23 0)
+-- get: 8, rounds 0, removed 2
+pub v076-get : getCall (1 ∷ 2 ∷ 149 ∷ 3 ∷ 4294967295 ∷ 0 ∷ 2 ∷ 8 ∷ 129 ∷ 1 ∷ 0 ∷ 1 ∷ 2 ∷ 1 ∷ []) (97 ∷ 98 ∷ 199 ∷ 162 ∷ replicate 28 0 ++ 98 ∷ 97 ∷ 1 ∷ replicate 29 0) 149 (98 ∷ 97 ∷ []) ≡ gave (plain NotFound 2) (1 ∷ replicate 13 0) (97 ∷ 98 ∷ 199 ∷ 162 ∷ replicate 28 0 ++ 98 ∷ 97 ∷ 1 ∷ replicate 29 0)
 unfolding entriesOf decode holds held freeRun every any rightLengths valueFits entrySound noneShared sound refuse checkSound _then_ checkClock clockChecks checkKey keyChecks memoryOf encode flat call dead same keyOf keyIs foundFrom lookUp deads without remove removeOldest sweepCount sweep afterSweep shown numberAt toFront moveToFront getFound getWork getCall
 v076-get = refl
 
--- get: 8, rounds 0, removed 0
-pub v077-get : getCall (1 ∷ 3 ∷ 0 ∷ 4 ∷ 5 ∷ 3 ∷ 1 ∷ 20 ∷ 1 ∷ 4 ∷ 5 ∷ 2 ∷ 2 ∷ 8 ∷ 0 ∷ 4 ∷ 0 ∷ 0 ∷ 1 ∷ 60 ∷ replicate 6 0) (99 ∷ replicate 60 120 ++ 0 ∷ 0 ∷ 0 ∷ 98 ∷ 97 ∷ replicate 8 120 ++ replicate 22 0 ++ 99 ∷ replicate 20 120 ++ replicate 11 0) 95 (98 ∷ 97 ∷ []) ≡ gave (plain NotFound 0) (1 ∷ 3 ∷ 0 ∷ 4 ∷ 5 ∷ 3 ∷ 1 ∷ 20 ∷ 1 ∷ 4 ∷ 5 ∷ 2 ∷ 2 ∷ 8 ∷ 0 ∷ 4 ∷ 0 ∷ 0 ∷ 1 ∷ 60 ∷ replicate 6 0) (99 ∷ replicate 60 120 ++ 0 ∷ 0 ∷ 0 ∷ 98 ∷ 97 ∷ replicate 8 120 ++ replicate 22 0 ++ 99 ∷ replicate 20 120 ++ replicate 11 0)
+-- get: 0, rounds 0, removed 1
+pub v077-get : getCall (1 ∷ 2 ∷ 0 ∷ 1 ∷ 4294967295 ∷ 0 ∷ 1 ∷ 1 ∷ 129 ∷ 3 ∷ 0 ∷ 1 ∷ 2 ∷ 8 ∷ []) (100 ∷ 1 ∷ 1 ∷ replicate 29 7 ++ 97 ∷ 98 ∷ 26 ∷ 37 ∷ 96 ∷ 42 ∷ 190 ∷ 11 ∷ 228 ∷ 71 ∷ replicate 22 7) 152 (100 ∷ []) ≡ gave (plain (Boolean 4294967295 true 1) 1) (1 ∷ 1 ∷ 0 ∷ 1 ∷ 4294967295 ∷ 0 ∷ 1 ∷ 1 ∷ replicate 6 0) (100 ∷ 1 ∷ 1 ∷ replicate 29 7 ++ 97 ∷ 98 ∷ 26 ∷ 37 ∷ 96 ∷ 42 ∷ 190 ∷ 11 ∷ 228 ∷ 71 ∷ replicate 22 7)
 unfolding entriesOf decode holds held freeRun every any rightLengths valueFits entrySound noneShared sound refuse checkSound _then_ checkClock clockChecks checkKey keyChecks memoryOf encode flat call dead same keyOf keyIs foundFrom lookUp deads without remove removeOldest sweepCount sweep afterSweep shown numberAt toFront moveToFront getFound getWork getCall
 v077-get = refl
 
--- get: 0, rounds 0, removed 2
-pub v078-get : getCall (1 ∷ 4 ∷ 111 ∷ 1 ∷ 5 ∷ 1 ∷ 1 ∷ 1 ∷ 0 ∷ 4 ∷ 0 ∷ 3 ∷ 2 ∷ 8 ∷ 105 ∷ 3 ∷ 0 ∷ 2 ∷ 1 ∷ 8 ∷ 145 ∷ 3 ∷ 0 ∷ 0 ∷ 1 ∷ 8 ∷ []) (98 ∷ 25 ∷ 13 ∷ 1 ∷ replicate 5 0 ++ replicate 23 7 ++ 98 ∷ 1 ∷ replicate 7 120 ++ replicate 23 7 ++ 97 ∷ 14 ∷ 82 ∷ 1 ∷ replicate 5 0 ++ replicate 23 7 ++ 98 ∷ 97 ∷ replicate 8 120 ++ replicate 22 7) 18446744073709551615 (98 ∷ 97 ∷ []) ≡ gave (plain (Text 0 98 8) 2) (1 ∷ 2 ∷ 0 ∷ 4 ∷ 0 ∷ 3 ∷ 2 ∷ 8 ∷ 111 ∷ 1 ∷ 5 ∷ 1 ∷ 1 ∷ 1 ∷ replicate 12 0) (98 ∷ 25 ∷ 13 ∷ 1 ∷ replicate 5 0 ++ replicate 23 7 ++ 98 ∷ 1 ∷ replicate 7 120 ++ replicate 23 7 ++ 97 ∷ 14 ∷ 82 ∷ 1 ∷ replicate 5 0 ++ replicate 23 7 ++ 98 ∷ 97 ∷ replicate 8 120 ++ replicate 22 7)
+-- get: 8, rounds 0, removed 0
+pub v078-get : getCall (1 ∷ 2 ∷ 99 ∷ 4 ∷ 4294967295 ∷ 0 ∷ 2 ∷ 8 ∷ 0 ∷ 4 ∷ 5 ∷ 1 ∷ 1 ∷ 30 ∷ []) (98 ∷ 97 ∷ replicate 30 120 ++ 98 ∷ replicate 30 120 ++ 7 ∷ []) 99 (98 ∷ 97 ∷ []) ≡ gave (plain NotFound 0) (1 ∷ 2 ∷ 99 ∷ 4 ∷ 4294967295 ∷ 0 ∷ 2 ∷ 8 ∷ 0 ∷ 4 ∷ 5 ∷ 1 ∷ 1 ∷ 30 ∷ []) (98 ∷ 97 ∷ replicate 30 120 ++ 98 ∷ replicate 30 120 ++ 7 ∷ [])
 unfolding entriesOf decode holds held freeRun every any rightLengths valueFits entrySound noneShared sound refuse checkSound _then_ checkClock clockChecks checkKey keyChecks memoryOf encode flat call dead same keyOf keyIs foundFrom lookUp deads without remove removeOldest sweepCount sweep afterSweep shown numberAt toFront moveToFront getFound getWork getCall
 v078-get = refl
 
--- get: 0, rounds 0, removed 1
-pub v079-get : getCall (1 ∷ 2 ∷ 122 ∷ 4 ∷ 4294967295 ∷ 1 ∷ 2 ∷ 8 ∷ 1 ∷ 4 ∷ 5 ∷ 0 ∷ 1 ∷ 30 ∷ replicate 12 0) (97 ∷ replicate 30 120 ++ 7 ∷ 97 ∷ 98 ∷ replicate 8 120 ++ replicate 86 7) 116 (97 ∷ 98 ∷ []) ≡ gave (plain (Text 4294967295 34 8) 1) (1 ∷ 1 ∷ 122 ∷ 4 ∷ 4294967295 ∷ 1 ∷ 2 ∷ 8 ∷ replicate 18 0) (97 ∷ replicate 30 120 ++ 7 ∷ 97 ∷ 98 ∷ replicate 8 120 ++ replicate 86 7)
+-- get: 0, rounds 0, removed 2
+pub v079-get : getCall (1 ∷ 3 ∷ 165 ∷ 1 ∷ 4294967295 ∷ 2 ∷ 1 ∷ 1 ∷ 84 ∷ 3 ∷ 0 ∷ 0 ∷ 1 ∷ 8 ∷ 1 ∷ 3 ∷ 0 ∷ 1 ∷ 1 ∷ 8 ∷ replicate 6 0) (100 ∷ 172 ∷ 160 ∷ replicate 6 255 ++ replicate 23 120 ++ 97 ∷ 124 ∷ 129 ∷ replicate 29 0 ++ 98 ∷ 1 ∷ replicate 62 0) 85 (98 ∷ []) ≡ gave (plain (Boolean 4294967295 true 65) 2) (1 ∷ 1 ∷ 165 ∷ 1 ∷ 4294967295 ∷ 2 ∷ 1 ∷ 1 ∷ replicate 18 0) (100 ∷ 172 ∷ 160 ∷ replicate 6 255 ++ replicate 23 120 ++ 97 ∷ 124 ∷ 129 ∷ replicate 29 0 ++ 98 ∷ 1 ∷ replicate 62 0)
 unfolding entriesOf decode holds held freeRun every any rightLengths valueFits entrySound noneShared sound refuse checkSound _then_ checkClock clockChecks checkKey keyChecks memoryOf encode flat call dead same keyOf keyIs foundFrom lookUp deads without remove removeOldest sweepCount sweep afterSweep shown numberAt toFront moveToFront getFound getWork getCall
 v079-get = refl
 
@@ -121,38 +121,38 @@ pub v081-get : getCall (1 ∷ 3 ∷ 0 ∷ 4 ∷ 5 ∷ 2 ∷ 1 ∷ 33 ∷ 0 ∷ 3
 unfolding entriesOf decode holds held freeRun every any rightLengths valueFits entrySound noneShared sound refuse checkSound _then_ checkClock clockChecks checkKey keyChecks memoryOf encode flat call dead same keyOf keyIs foundFrom lookUp deads without remove removeOldest sweepCount sweep afterSweep shown numberAt toFront moveToFront getFound getWork getCall
 v081-get = refl
 
--- get_stale: 8, rounds 0, removed 0
-pub v082-get-stale : getStaleCall (1 ∷ 1 ∷ 142 ∷ 1 ∷ 0 ∷ 0 ∷ 2 ∷ 1 ∷ []) (97 ∷ 98 ∷ 1 ∷ replicate 6 0 ++ replicate 23 7) 132 (97 ∷ 98 ∷ 99 ∷ []) ≡ (plain NotFound 0)
+-- get_stale: 0, rounds 0, removed 0
+pub v082-get-stale : getStaleCall (1 ∷ 1 ∷ 1 ∷ 4 ∷ 4294967295 ∷ 0 ∷ 1 ∷ 31 ∷ replicate 6 0) (100 ∷ replicate 31 120 ++ replicate 32 0) 69 (100 ∷ []) ≡ (marked (Text 4294967295 1 31) true)
 unfolding entriesOf decode holds held freeRun every any rightLengths valueFits entrySound noneShared sound refuse checkSound _then_ checkClock clockChecks checkKey keyChecks dead same keyOf keyIs foundFrom lookUp shown numberAt memoryOf ask staleFound getStaleCall
 v082-get-stale = refl
 
--- get_stale: 0, rounds 0, removed 0
-pub v083-get-stale : getStaleCall (1 ∷ 2 ∷ 0 ∷ 3 ∷ 5 ∷ 2 ∷ 1 ∷ 8 ∷ 135 ∷ 4 ∷ 5 ∷ 0 ∷ 3 ∷ 60 ∷ replicate 12 0) (97 ∷ 98 ∷ 99 ∷ replicate 60 120 ++ 7 ∷ 97 ∷ 96 ∷ 65 ∷ replicate 6 0 ++ replicate 55 7) 126 (97 ∷ []) ≡ (plain (Number 5 (pos 16736) 65) 0)
+-- get_stale: 8, rounds 0, removed 0
+pub v083-get-stale : getStaleCall (1 ∷ replicate 25 0) (replicate 128 0) 96 (97 ∷ []) ≡ (plain NotFound 0)
 unfolding entriesOf decode holds held freeRun every any rightLengths valueFits entrySound noneShared sound refuse checkSound _then_ checkClock clockChecks checkKey keyChecks dead same keyOf keyIs foundFrom lookUp shown numberAt memoryOf ask staleFound getStaleCall
 v083-get-stale = refl
 
--- get_stale: 8, rounds 0, removed 0
-pub v084-get-stale : getStaleCall (1 ∷ replicate 25 0) (replicate 128 7) 112 (97 ∷ 98 ∷ 99 ∷ []) ≡ (plain NotFound 0)
+-- get_stale: 1, rounds 0, removed 0
+pub v084-get-stale : getStaleCall (1 ∷ replicate 8 0) (replicate 32 7) 130 (97 ∷ 98 ∷ 99 ∷ []) ≡ (plain NotSound 0)
 unfolding entriesOf decode holds held freeRun every any rightLengths valueFits entrySound noneShared sound refuse checkSound _then_ checkClock clockChecks checkKey keyChecks dead same keyOf keyIs foundFrom lookUp shown numberAt memoryOf ask staleFound getStaleCall
 v084-get-stale = refl
 
--- get_stale: 0, rounds 0, removed 0
-pub v085-get-stale : getStaleCall (1 ∷ 3 ∷ 0 ∷ 3 ∷ 4294967295 ∷ 2 ∷ 1 ∷ 8 ∷ 0 ∷ 3 ∷ 4294967295 ∷ 1 ∷ 1 ∷ 8 ∷ 104 ∷ 3 ∷ 0 ∷ 0 ∷ 3 ∷ 8 ∷ replicate 6 0) (97 ∷ 98 ∷ 99 ∷ 199 ∷ 93 ∷ 125 ∷ 25 ∷ 15 ∷ 191 ∷ 9 ∷ 54 ∷ replicate 21 7 ++ 99 ∷ 205 ∷ 79 ∷ 1 ∷ replicate 5 0 ++ replicate 23 7 ++ 98 ∷ 53 ∷ 70 ∷ replicate 6 0 ++ replicate 55 7) 148 (97 ∷ 98 ∷ 99 ∷ []) ≡ (marked (Number 0 (pos 3893853424411565511) 3) true)
+-- get_stale: 3, rounds 0, removed 0
+pub v085-get-stale : getStaleCall (1 ∷ 1 ∷ 0 ∷ 3 ∷ 4294967295 ∷ 0 ∷ 1 ∷ 8 ∷ []) (98 ∷ 172 ∷ 99 ∷ replicate 6 0 ++ replicate 23 7) 113 [] ≡ (plain KeyEmpty 0)
 unfolding entriesOf decode holds held freeRun every any rightLengths valueFits entrySound noneShared sound refuse checkSound _then_ checkClock clockChecks checkKey keyChecks dead same keyOf keyIs foundFrom lookUp shown numberAt memoryOf ask staleFound getStaleCall
 v085-get-stale = refl
 
--- get_stale: 1, rounds 0, removed 0
-pub v086-get-stale : getStaleCall (1 ∷ replicate 8 0) (replicate 32 7) 130 (97 ∷ 98 ∷ 99 ∷ []) ≡ (plain NotSound 0)
+-- get_stale: 8, rounds 0, removed 0
+pub v086-get-stale : getStaleCall (1 ∷ 1 ∷ 1 ∷ 1 ∷ 5 ∷ 0 ∷ 1 ∷ 1 ∷ []) (98 ∷ 0 ∷ replicate 30 7) 101 (97 ∷ []) ≡ (plain NotFound 0)
 unfolding entriesOf decode holds held freeRun every any rightLengths valueFits entrySound noneShared sound refuse checkSound _then_ checkClock clockChecks checkKey keyChecks dead same keyOf keyIs foundFrom lookUp shown numberAt memoryOf ask staleFound getStaleCall
 v086-get-stale = refl
 
--- get_stale: 8, rounds 0, removed 0
-pub v087-get-stale : getStaleCall (1 ∷ 3 ∷ 179 ∷ 3 ∷ 4294967295 ∷ 2 ∷ 1 ∷ 8 ∷ 0 ∷ 3 ∷ 5 ∷ 1 ∷ 2 ∷ 8 ∷ 168 ∷ 1 ∷ 5 ∷ 0 ∷ 1 ∷ 1 ∷ replicate 6 0) (98 ∷ 1 ∷ 121 ∷ 179 ∷ replicate 6 0 ++ replicate 22 7 ++ 97 ∷ 98 ∷ 160 ∷ 239 ∷ replicate 6 255 ++ replicate 22 7 ++ 100 ∷ 126 ∷ 11 ∷ 1 ∷ replicate 5 0 ++ replicate 55 7) 99 (99 ∷ []) ≡ (plain NotFound 0)
+-- get_stale: 1, rounds 0, removed 0
+pub v087-get-stale : getStaleCall (1 ∷ replicate 13 0) [] 124 (98 ∷ []) ≡ (plain NotSound 0)
 unfolding entriesOf decode holds held freeRun every any rightLengths valueFits entrySound noneShared sound refuse checkSound _then_ checkClock clockChecks checkKey keyChecks dead same keyOf keyIs foundFrom lookUp shown numberAt memoryOf ask staleFound getStaleCall
 v087-get-stale = refl
 
 -- get_stale: 0, rounds 0, removed 0
-pub v088-get-stale : getStaleCall (1 ∷ 1 ∷ 0 ∷ 4 ∷ 4294967295 ∷ 0 ∷ 2 ∷ 8 ∷ replicate 6 0) (97 ∷ 98 ∷ replicate 62 120) 67 (97 ∷ 98 ∷ []) ≡ (plain (Text 4294967295 2 8) 0)
+pub v088-get-stale : getStaleCall (1 ∷ 1 ∷ 117 ∷ 4 ∷ 0 ∷ 0 ∷ 2 ∷ 1 ∷ replicate 6 0) (98 ∷ 97 ∷ 120 ∷ replicate 61 0) 67 (98 ∷ 97 ∷ []) ≡ (plain (Text 0 2 1) 0)
 unfolding entriesOf decode holds held freeRun every any rightLengths valueFits entrySound noneShared sound refuse checkSound _then_ checkClock clockChecks checkKey keyChecks dead same keyOf keyIs foundFrom lookUp shown numberAt memoryOf ask staleFound getStaleCall
 v088-get-stale = refl
 
@@ -161,43 +161,43 @@ pub v089-get-stale : getStaleCall (1 ∷ replicate 7 0) (replicate 32 7) 0 (97 �
 unfolding entriesOf decode holds held freeRun every any rightLengths valueFits entrySound noneShared sound refuse checkSound _then_ checkClock clockChecks checkKey keyChecks dead same keyOf keyIs foundFrom lookUp shown numberAt memoryOf ask staleFound getStaleCall
 v089-get-stale = refl
 
--- get_stale: 0, rounds 0, removed 0
-pub v090-get-stale : getStaleCall (1 ∷ 1 ∷ 158 ∷ 3 ∷ 0 ∷ 0 ∷ 1 ∷ 8 ∷ replicate 6 0) (97 ∷ 14 ∷ 122 ∷ replicate 6 255 ++ replicate 23 7 ++ 98 ∷ 168 ∷ 159 ∷ replicate 6 0 ++ replicate 23 7) 98 (97 ∷ []) ≡ (plain (Number 0 (negsuc 34289) 1) 0)
+-- get_stale: 8, rounds 0, removed 0
+pub v090-get-stale : getStaleCall (1 ∷ 2 ∷ 0 ∷ 4 ∷ 4294967295 ∷ 2 ∷ 2 ∷ 0 ∷ 96 ∷ 4 ∷ 0 ∷ 0 ∷ 1 ∷ 33 ∷ replicate 12 0) (98 ∷ replicate 33 120 ++ replicate 30 7 ++ 98 ∷ 97 ∷ replicate 62 7) 101 (97 ∷ []) ≡ (plain NotFound 0)
 unfolding entriesOf decode holds held freeRun every any rightLengths valueFits entrySound noneShared sound refuse checkSound _then_ checkClock clockChecks checkKey keyChecks dead same keyOf keyIs foundFrom lookUp shown numberAt memoryOf ask staleFound getStaleCall
 v090-get-stale = refl
 
--- get_stale: 4, rounds 0, removed 0
-pub v091-get-stale : getStaleCall (1 ∷ replicate 13 0) (replicate 64 7) 114 (replicate 65536 107) ≡ (plain KeyTooLong 0)
+-- get_stale: 0, rounds 0, removed 0
+pub v091-get-stale : getStaleCall (1 ∷ 2 ∷ 0 ∷ 1 ∷ 4294967295 ∷ 0 ∷ 1 ∷ 1 ∷ 0 ∷ 1 ∷ 4294967295 ∷ 1 ∷ 40 ∷ 1 ∷ replicate 12 0) (98 ∷ 1 ∷ 91 ∷ 151 ∷ replicate 28 0 ++ replicate 40 107 ++ 1 ∷ replicate 55 0) 138 (98 ∷ []) ≡ (plain (Boolean 4294967295 true 1) 0)
 unfolding entriesOf decode holds held freeRun every any rightLengths valueFits entrySound noneShared sound refuse checkSound _then_ checkClock clockChecks checkKey keyChecks dead same keyOf keyIs foundFrom lookUp shown numberAt memoryOf ask staleFound getStaleCall
 v091-get-stale = refl
 
--- get_stale: 1, rounds 0, removed 0
-pub v092-get-stale : getStaleCall (1 ∷ 1 ∷ 155 ∷ 3 ∷ 4294967295 ∷ 0 ∷ 2 ∷ 8 ∷ 0 ∷ []) (97 ∷ 98 ∷ 27 ∷ 5 ∷ 1 ∷ replicate 5 0 ++ replicate 22 7) 170 [] ≡ (plain NotSound 0)
+-- get_stale: 0, rounds 0, removed 0
+pub v092-get-stale : getStaleCall (1 ∷ 1 ∷ 158 ∷ 3 ∷ 0 ∷ 0 ∷ 1 ∷ 8 ∷ replicate 6 0) (97 ∷ 14 ∷ 122 ∷ replicate 6 255 ++ replicate 23 7 ++ 98 ∷ 168 ∷ 159 ∷ replicate 6 0 ++ replicate 23 7) 98 (97 ∷ []) ≡ (plain (Number 0 (negsuc 34289) 1) 0)
 unfolding entriesOf decode holds held freeRun every any rightLengths valueFits entrySound noneShared sound refuse checkSound _then_ checkClock clockChecks checkKey keyChecks dead same keyOf keyIs foundFrom lookUp shown numberAt memoryOf ask staleFound getStaleCall
 v092-get-stale = refl
 
--- get_stale: 3, rounds 0, removed 0
-pub v093-get-stale : getStaleCall (1 ∷ 2 ∷ 172 ∷ 1 ∷ 0 ∷ 2 ∷ 3 ∷ 1 ∷ 1 ∷ 1 ∷ 5 ∷ 0 ∷ 40 ∷ 1 ∷ replicate 12 0) (replicate 40 107 ++ 1 ∷ replicate 23 0 ++ 97 ∷ 98 ∷ 99 ∷ 1 ∷ replicate 60 0) 172 [] ≡ (plain KeyEmpty 0)
+-- get_stale: 0, rounds 0, removed 0
+pub v093-get-stale : getStaleCall (1 ∷ 2 ∷ 0 ∷ 4 ∷ 4294967295 ∷ 0 ∷ 1 ∷ 31 ∷ 96 ∷ 3 ∷ 5 ∷ 1 ∷ 2 ∷ 8 ∷ []) (99 ∷ replicate 31 120 ++ 98 ∷ 97 ∷ 250 ∷ 250 ∷ 254 ∷ replicate 5 255 ++ replicate 22 7) 67 (98 ∷ 97 ∷ []) ≡ (plain (Number 5 (negsuc 66821) 34) 0)
 unfolding entriesOf decode holds held freeRun every any rightLengths valueFits entrySound noneShared sound refuse checkSound _then_ checkClock clockChecks checkKey keyChecks dead same keyOf keyIs foundFrom lookUp shown numberAt memoryOf ask staleFound getStaleCall
 v093-get-stale = refl
 
--- get_stale: 0, rounds 0, removed 0
-pub v094-get-stale : getStaleCall (1 ∷ 2 ∷ 132 ∷ 4 ∷ 0 ∷ 0 ∷ 2 ∷ 0 ∷ 0 ∷ 1 ∷ 0 ∷ 1 ∷ 1 ∷ 1 ∷ replicate 12 0) (98 ∷ 97 ∷ 1 ∷ replicate 29 0 ++ 99 ∷ 1 ∷ replicate 94 0) 87 (99 ∷ []) ≡ (plain (Boolean 0 true 33) 0)
+-- get_stale: 4, rounds 0, removed 0
+pub v094-get-stale : getStaleCall (1 ∷ 1 ∷ 0 ∷ 4 ∷ 0 ∷ 0 ∷ 2 ∷ 60 ∷ replicate 6 0) (97 ∷ 98 ∷ replicate 60 120 ++ 7 ∷ 7 ∷ []) 113 (replicate 65536 107) ≡ (plain KeyTooLong 0)
 unfolding entriesOf decode holds held freeRun every any rightLengths valueFits entrySound noneShared sound refuse checkSound _then_ checkClock clockChecks checkKey keyChecks dead same keyOf keyIs foundFrom lookUp shown numberAt memoryOf ask staleFound getStaleCall
 v094-get-stale = refl
 
 -- get_stale: 0, rounds 0, removed 0
-pub v095-get-stale : getStaleCall (1 ∷ 3 ∷ 1 ∷ 3 ∷ 4294967295 ∷ 2 ∷ 2 ∷ 8 ∷ 0 ∷ 1 ∷ 0 ∷ 1 ∷ 3 ∷ 1 ∷ 0 ∷ 1 ∷ 5 ∷ 0 ∷ 1 ∷ 1 ∷ replicate 6 0) (97 ∷ 1 ∷ replicate 30 7 ++ 97 ∷ 98 ∷ 99 ∷ 1 ∷ replicate 28 7 ++ 97 ∷ 98 ∷ replicate 8 255 ++ replicate 54 7) 89 (97 ∷ 98 ∷ []) ≡ (marked (Number 4294967295 (negsuc 0) 66) true)
+pub v095-get-stale : getStaleCall (1 ∷ 2 ∷ 110 ∷ 1 ∷ 4294967295 ∷ 0 ∷ 2 ∷ 1 ∷ 1 ∷ 4 ∷ 5 ∷ 1 ∷ 3 ∷ 8 ∷ []) (98 ∷ 97 ∷ 1 ∷ replicate 29 120 ++ 97 ∷ 98 ∷ 99 ∷ replicate 29 120) 154 (98 ∷ 97 ∷ []) ≡ (marked (Boolean 4294967295 true 2) true)
 unfolding entriesOf decode holds held freeRun every any rightLengths valueFits entrySound noneShared sound refuse checkSound _then_ checkClock clockChecks checkKey keyChecks dead same keyOf keyIs foundFrom lookUp shown numberAt memoryOf ask staleFound getStaleCall
 v095-get-stale = refl
 
 -- get_stale: 0, rounds 0, removed 0
-pub v096-get-stale : getStaleCall (1 ∷ 4 ∷ 134 ∷ 3 ∷ 5 ∷ 2 ∷ 2 ∷ 8 ∷ 124 ∷ 3 ∷ 0 ∷ 1 ∷ 1 ∷ 8 ∷ 130 ∷ 1 ∷ 5 ∷ 0 ∷ 1 ∷ 1 ∷ 0 ∷ 3 ∷ 4294967295 ∷ 3 ∷ 3 ∷ 8 ∷ []) (100 ∷ 1 ∷ replicate 30 120 ++ 97 ∷ replicate 7 0 ++ 128 ∷ replicate 23 120 ++ 97 ∷ 98 ∷ 121 ∷ 1 ∷ 103 ∷ 220 ∷ 91 ∷ 84 ∷ 227 ∷ 60 ∷ replicate 22 120 ++ 97 ∷ 98 ∷ 99 ∷ 224 ∷ 18 ∷ replicate 27 0) 144 (97 ∷ []) ≡ (marked (Number 0 (negsuc 9223372036854775807) 33) true)
+pub v096-get-stale : getStaleCall (1 ∷ 4 ∷ 130 ∷ 3 ∷ 0 ∷ 3 ∷ 1 ∷ 8 ∷ 0 ∷ 1 ∷ 5 ∷ 2 ∷ 1 ∷ 1 ∷ 1 ∷ 4 ∷ 4294967295 ∷ 1 ∷ 1 ∷ 30 ∷ 166 ∷ 3 ∷ 5 ∷ 0 ∷ 1 ∷ 8 ∷ []) (98 ∷ 167 ∷ 228 ∷ replicate 6 0 ++ replicate 23 7 ++ 100 ∷ replicate 30 120 ++ 7 ∷ 99 ∷ 1 ∷ replicate 30 7 ++ 98 ∷ 188 ∷ 106 ∷ replicate 6 0 ++ replicate 23 7) 125 (100 ∷ []) ≡ (marked (Text 4294967295 33 30) true)
 unfolding entriesOf decode holds held freeRun every any rightLengths valueFits entrySound noneShared sound refuse checkSound _then_ checkClock clockChecks checkKey keyChecks dead same keyOf keyIs foundFrom lookUp shown numberAt memoryOf ask staleFound getStaleCall
 v096-get-stale = refl
 
 -- get_stale: 0, rounds 0, removed 0
-pub v097-get-stale : getStaleCall (1 ∷ 2 ∷ 1 ∷ 4 ∷ 5 ∷ 1 ∷ 1 ∷ 8 ∷ 1 ∷ 3 ∷ 4294967295 ∷ 0 ∷ 1 ∷ 8 ∷ []) (97 ∷ replicate 7 0 ++ 128 ∷ replicate 23 7 ++ 97 ∷ replicate 8 120 ++ replicate 23 7) 88 (97 ∷ []) ≡ (marked (Text 5 33 8) true)
+pub v097-get-stale : getStaleCall (1 ∷ 2 ∷ 1 ∷ 3 ∷ 5 ∷ 1 ∷ 1 ∷ 8 ∷ 0 ∷ 3 ∷ 5 ∷ 0 ∷ 1 ∷ 8 ∷ []) (97 ∷ 241 ∷ 193 ∷ replicate 6 0 ++ replicate 23 7 ++ 100 ∷ 254 ∷ replicate 6 255 ++ 127 ∷ 127 ∷ replicate 22 7) 125 (100 ∷ []) ≡ (marked (Number 5 (pos 9223372036854775806) 33) true)
 unfolding entriesOf decode holds held freeRun every any rightLengths valueFits entrySound noneShared sound refuse checkSound _then_ checkClock clockChecks checkKey keyChecks dead same keyOf keyIs foundFrom lookUp shown numberAt memoryOf ask staleFound getStaleCall
 v097-get-stale = refl
 
@@ -211,107 +211,107 @@ pub v099-ttl : ttlCall (1 ∷ 2 ∷ 102 ∷ 4 ∷ 5 ∷ 1 ∷ 1 ∷ 8 ∷ 0 ∷ 
 unfolding entriesOf decode holds held freeRun every any rightLengths valueFits entrySound noneShared sound refuse checkSound _then_ checkClock clockChecks checkKey keyChecks dead same keyOf keyIs foundFrom lookUp memoryOf ask timeLeft ttlFound ttlCall
 v099-ttl = refl
 
--- ttl: 3, rounds 0, removed 0
-pub v100-ttl : ttlCall (1 ∷ replicate 13 0) (replicate 64 0) 18446744073709551615 [] ≡ (plain KeyEmpty 0)
+-- ttl: 2, rounds 0, removed 0
+pub v100-ttl : ttlCall (1 ∷ 1 ∷ 129 ∷ 4 ∷ 0 ∷ 0 ∷ 2 ∷ 20 ∷ []) (98 ∷ 97 ∷ replicate 20 120 ++ replicate 10 7) 0 (99 ∷ []) ≡ (plain ClockZero 0)
 unfolding entriesOf decode holds held freeRun every any rightLengths valueFits entrySound noneShared sound refuse checkSound _then_ checkClock clockChecks checkKey keyChecks dead same keyOf keyIs foundFrom lookUp memoryOf ask timeLeft ttlFound ttlCall
 v100-ttl = refl
 
--- ttl: 1, rounds 0, removed 0
-pub v101-ttl : ttlCall (1 ∷ 1 ∷ 106 ∷ 4 ∷ 0 ∷ 0 ∷ 1 ∷ 8 ∷ []) [] 87 (97 ∷ 98 ∷ 99 ∷ []) ≡ (plain NotSound 0)
+-- ttl: 4, rounds 0, removed 0
+pub v101-ttl : ttlCall (1 ∷ 1 ∷ 0 ∷ 1 ∷ 5 ∷ 0 ∷ 1 ∷ 1 ∷ []) (98 ∷ 1 ∷ replicate 30 0) 126 (replicate 65536 107) ≡ (plain KeyTooLong 0)
 unfolding entriesOf decode holds held freeRun every any rightLengths valueFits entrySound noneShared sound refuse checkSound _then_ checkClock clockChecks checkKey keyChecks dead same keyOf keyIs foundFrom lookUp memoryOf ask timeLeft ttlFound ttlCall
 v101-ttl = refl
 
 -- ttl: 8, rounds 0, removed 0
-pub v102-ttl : ttlCall (1 ∷ 1 ∷ 137 ∷ 1 ∷ 0 ∷ 0 ∷ 3 ∷ 1 ∷ replicate 18 0) (97 ∷ 98 ∷ 99 ∷ 1 ∷ replicate 124 0) 87 (100 ∷ []) ≡ (plain NotFound 0)
+pub v102-ttl : ttlCall (1 ∷ 1 ∷ 120 ∷ 4 ∷ 0 ∷ 0 ∷ 3 ∷ 31 ∷ replicate 6 0) (97 ∷ 98 ∷ 99 ∷ replicate 31 120 ++ replicate 30 0) 70 (100 ∷ []) ≡ (plain NotFound 0)
 unfolding entriesOf decode holds held freeRun every any rightLengths valueFits entrySound noneShared sound refuse checkSound _then_ checkClock clockChecks checkKey keyChecks dead same keyOf keyIs foundFrom lookUp memoryOf ask timeLeft ttlFound ttlCall
 v102-ttl = refl
 
--- ttl: 0, rounds 0, removed 0
-pub v103-ttl : ttlCall (1 ∷ 1 ∷ 0 ∷ 1 ∷ 5 ∷ 0 ∷ 1 ∷ 1 ∷ []) (97 ∷ 1 ∷ replicate 30 7) 56 (97 ∷ []) ≡ (plain (Count 0) 0)
+-- ttl: 8, rounds 0, removed 0
+pub v103-ttl : ttlCall (1 ∷ replicate 25 0) (replicate 128 7) 93 (97 ∷ 98 ∷ 99 ∷ []) ≡ (plain NotFound 0)
 unfolding entriesOf decode holds held freeRun every any rightLengths valueFits entrySound noneShared sound refuse checkSound _then_ checkClock clockChecks checkKey keyChecks dead same keyOf keyIs foundFrom lookUp memoryOf ask timeLeft ttlFound ttlCall
 v103-ttl = refl
 
--- ttl: 8, rounds 0, removed 0
-pub v104-ttl : ttlCall (1 ∷ replicate 25 0) (replicate 128 7) 92 (99 ∷ []) ≡ (plain NotFound 0)
+-- ttl: 0, rounds 0, removed 0
+pub v104-ttl : ttlCall (1 ∷ 1 ∷ 133 ∷ 1 ∷ 4294967295 ∷ 0 ∷ 2 ∷ 1 ∷ replicate 18 0) (97 ∷ 98 ∷ 1 ∷ replicate 31 120 ++ replicate 30 0 ++ 97 ∷ 98 ∷ 1 ∷ replicate 6 0 ++ 128 ∷ replicate 54 0) 74 (97 ∷ 98 ∷ []) ≡ (plain (Count 59) 0)
 unfolding entriesOf decode holds held freeRun every any rightLengths valueFits entrySound noneShared sound refuse checkSound _then_ checkClock clockChecks checkKey keyChecks dead same keyOf keyIs foundFrom lookUp memoryOf ask timeLeft ttlFound ttlCall
 v104-ttl = refl
 
--- ttl: 8, rounds 0, removed 0
-pub v105-ttl : ttlCall (1 ∷ 2 ∷ 123 ∷ 4 ∷ 5 ∷ 1 ∷ 1 ∷ 8 ∷ 0 ∷ 3 ∷ 4294967295 ∷ 0 ∷ 1 ∷ 8 ∷ []) (99 ∷ 162 ∷ 166 ∷ replicate 6 255 ++ replicate 23 0 ++ 100 ∷ replicate 8 120 ++ replicate 23 0) 143 (100 ∷ []) ≡ (plain NotFound 0)
+-- ttl: 0, rounds 0, removed 0
+pub v105-ttl : ttlCall (1 ∷ 1 ∷ 0 ∷ 4 ∷ 4294967295 ∷ 0 ∷ 2 ∷ 31 ∷ replicate 6 0) (97 ∷ 98 ∷ replicate 31 120 ++ replicate 31 0) 103 (97 ∷ 98 ∷ []) ≡ (plain (Count 0) 0)
 unfolding entriesOf decode holds held freeRun every any rightLengths valueFits entrySound noneShared sound refuse checkSound _then_ checkClock clockChecks checkKey keyChecks dead same keyOf keyIs foundFrom lookUp memoryOf ask timeLeft ttlFound ttlCall
 v105-ttl = refl
 
--- ttl: 4, rounds 0, removed 0
-pub v106-ttl : ttlCall (1 ∷ 1 ∷ 116 ∷ 1 ∷ 5 ∷ 0 ∷ 2 ∷ 1 ∷ []) (97 ∷ 98 ∷ 1 ∷ replicate 7 0 ++ 128 ∷ replicate 21 7) 130 (replicate 65536 107) ≡ (plain KeyTooLong 0)
+-- ttl: 8, rounds 0, removed 0
+pub v106-ttl : ttlCall (1 ∷ 2 ∷ 123 ∷ 4 ∷ 5 ∷ 1 ∷ 1 ∷ 8 ∷ 0 ∷ 3 ∷ 4294967295 ∷ 0 ∷ 1 ∷ 8 ∷ []) (99 ∷ 162 ∷ 166 ∷ replicate 6 255 ++ replicate 23 0 ++ 100 ∷ replicate 8 120 ++ replicate 23 0) 143 (100 ∷ []) ≡ (plain NotFound 0)
 unfolding entriesOf decode holds held freeRun every any rightLengths valueFits entrySound noneShared sound refuse checkSound _then_ checkClock clockChecks checkKey keyChecks dead same keyOf keyIs foundFrom lookUp memoryOf ask timeLeft ttlFound ttlCall
 v106-ttl = refl
 
--- ttl: 2, rounds 0, removed 0
-pub v107-ttl : ttlCall (1 ∷ 2 ∷ 174 ∷ 3 ∷ 0 ∷ 0 ∷ 1 ∷ 8 ∷ 100 ∷ 4 ∷ 5 ∷ 1 ∷ 1 ∷ 40 ∷ replicate 12 0) (98 ∷ replicate 8 255 ++ replicate 23 0 ++ 100 ∷ replicate 40 120 ++ replicate 55 0) 0 (99 ∷ []) ≡ (plain ClockZero 0)
+-- ttl: 0, rounds 0, removed 0
+pub v107-ttl : ttlCall (1 ∷ 2 ∷ 160 ∷ 1 ∷ 5 ∷ 1 ∷ 1 ∷ 1 ∷ 0 ∷ 1 ∷ 5 ∷ 0 ∷ 1 ∷ 1 ∷ replicate 12 0) (99 ∷ 1 ∷ replicate 30 7 ++ 97 ∷ 1 ∷ replicate 94 7) 94 (99 ∷ []) ≡ (plain (Count 0) 0)
 unfolding entriesOf decode holds held freeRun every any rightLengths valueFits entrySound noneShared sound refuse checkSound _then_ checkClock clockChecks checkKey keyChecks dead same keyOf keyIs foundFrom lookUp memoryOf ask timeLeft ttlFound ttlCall
 v107-ttl = refl
 
 -- ttl: 0, rounds 0, removed 0
-pub v108-ttl : ttlCall (1 ∷ 1 ∷ 0 ∷ 3 ∷ 0 ∷ 0 ∷ 1 ∷ 8 ∷ replicate 18 0) (99 ∷ replicate 8 255 ++ replicate 119 0) 111 (99 ∷ []) ≡ (plain (Count 0) 0)
+pub v108-ttl : ttlCall (1 ∷ 4 ∷ 96 ∷ 1 ∷ 5 ∷ 3 ∷ 2 ∷ 1 ∷ 109 ∷ 4 ∷ 0 ∷ 0 ∷ 1 ∷ 1 ∷ 96 ∷ 4 ∷ 5 ∷ 1 ∷ 1 ∷ 31 ∷ 96 ∷ 4 ∷ 0 ∷ 2 ∷ 1 ∷ 31 ∷ []) (99 ∷ replicate 31 120 ++ 100 ∷ replicate 31 120 ++ 98 ∷ replicate 31 120 ++ 97 ∷ 98 ∷ 1 ∷ replicate 29 7) 90 (99 ∷ []) ≡ (plain (Count 19) 0)
 unfolding entriesOf decode holds held freeRun every any rightLengths valueFits entrySound noneShared sound refuse checkSound _then_ checkClock clockChecks checkKey keyChecks dead same keyOf keyIs foundFrom lookUp memoryOf ask timeLeft ttlFound ttlCall
 v108-ttl = refl
 
--- ttl: 0, rounds 0, removed 0
-pub v109-ttl : ttlCall (1 ∷ 2 ∷ 125 ∷ 1 ∷ 0 ∷ 1 ∷ 3 ∷ 1 ∷ 0 ∷ 3 ∷ 0 ∷ 0 ∷ 2 ∷ 8 ∷ []) (98 ∷ 97 ∷ 12 ∷ 186 ∷ replicate 6 0 ++ replicate 22 7 ++ 97 ∷ 98 ∷ 99 ∷ 0 ∷ replicate 28 7) 145 (98 ∷ 97 ∷ []) ≡ (plain (Count 0) 0)
+-- ttl: 8, rounds 0, removed 0
+pub v109-ttl : ttlCall (1 ∷ 1 ∷ 144 ∷ 1 ∷ 5 ∷ 0 ∷ 2 ∷ 1 ∷ replicate 18 0) (97 ∷ 98 ∷ 1 ∷ replicate 99 120 ++ replicate 26 7) 164 (97 ∷ 98 ∷ []) ≡ (plain NotFound 0)
 unfolding entriesOf decode holds held freeRun every any rightLengths valueFits entrySound noneShared sound refuse checkSound _then_ checkClock clockChecks checkKey keyChecks dead same keyOf keyIs foundFrom lookUp memoryOf ask timeLeft ttlFound ttlCall
 v109-ttl = refl
 
--- ttl: 0, rounds 0, removed 0
-pub v110-ttl : ttlCall (1 ∷ 4 ∷ 173 ∷ 4 ∷ 0 ∷ 3 ∷ 1 ∷ 8 ∷ 148 ∷ 4 ∷ 5 ∷ 2 ∷ 1 ∷ 1 ∷ 123 ∷ 4 ∷ 0 ∷ 1 ∷ 2 ∷ 8 ∷ 0 ∷ 3 ∷ 0 ∷ 0 ∷ 2 ∷ 8 ∷ []) (98 ∷ 97 ∷ 76 ∷ 51 ∷ 1 ∷ replicate 5 0 ++ replicate 22 7 ++ 97 ∷ 98 ∷ replicate 8 120 ++ replicate 22 7 ++ 99 ∷ 120 ∷ replicate 30 7 ++ 98 ∷ replicate 8 120 ++ replicate 23 7) 98 (97 ∷ 98 ∷ []) ≡ (plain (Count 25) 0)
+-- ttl: 1, rounds 0, removed 0
+pub v110-ttl : ttlCall (1 ∷ 1 ∷ 0 ∷ 1 ∷ 4294967295 ∷ 0 ∷ 1 ∷ 1 ∷ replicate 7 0) (99 ∷ 1 ∷ replicate 62 120) 105 (99 ∷ []) ≡ (plain NotSound 0)
 unfolding entriesOf decode holds held freeRun every any rightLengths valueFits entrySound noneShared sound refuse checkSound _then_ checkClock clockChecks checkKey keyChecks dead same keyOf keyIs foundFrom lookUp memoryOf ask timeLeft ttlFound ttlCall
 v110-ttl = refl
 
--- ttl: 8, rounds 0, removed 0
-pub v111-ttl : ttlCall (1 ∷ 2 ∷ 104 ∷ 3 ∷ 4294967295 ∷ 1 ∷ 2 ∷ 8 ∷ 1 ∷ 3 ∷ 5 ∷ 0 ∷ 1 ∷ 8 ∷ []) (98 ∷ 1 ∷ replicate 6 0 ++ 128 ∷ replicate 23 7 ++ 97 ∷ 98 ∷ 219 ∷ 247 ∷ replicate 6 0 ++ replicate 22 7) 114 (97 ∷ 98 ∷ []) ≡ (plain NotFound 0)
+-- ttl: 3, rounds 0, removed 0
+pub v111-ttl : ttlCall (1 ∷ 1 ∷ 0 ∷ 3 ∷ 5 ∷ 0 ∷ 1 ∷ 8 ∷ replicate 18 0) (99 ∷ 13 ∷ 235 ∷ replicate 6 255 ++ replicate 119 0) 163 [] ≡ (plain KeyEmpty 0)
 unfolding entriesOf decode holds held freeRun every any rightLengths valueFits entrySound noneShared sound refuse checkSound _then_ checkClock clockChecks checkKey keyChecks dead same keyOf keyIs foundFrom lookUp memoryOf ask timeLeft ttlFound ttlCall
 v111-ttl = refl
 
 -- ttl: 8, rounds 0, removed 0
-pub v112-ttl : ttlCall (1 ∷ 3 ∷ 120 ∷ 4 ∷ 4294967295 ∷ 3 ∷ 1 ∷ 30 ∷ 114 ∷ 3 ∷ 5 ∷ 2 ∷ 2 ∷ 8 ∷ 165 ∷ 4 ∷ 5 ∷ 0 ∷ 1 ∷ 63 ∷ replicate 6 0) (99 ∷ replicate 63 120 ++ 98 ∷ 97 ∷ 32 ∷ 168 ∷ replicate 6 255 ++ replicate 22 7 ++ 100 ∷ replicate 30 120 ++ 7 ∷ []) 18446744073709551615 (100 ∷ []) ≡ (plain NotFound 0)
+pub v112-ttl : ttlCall (1 ∷ 2 ∷ 129 ∷ 3 ∷ 5 ∷ 1 ∷ 1 ∷ 8 ∷ 129 ∷ 3 ∷ 4294967295 ∷ 0 ∷ 1 ∷ 8 ∷ []) (100 ∷ 222 ∷ 154 ∷ 254 ∷ replicate 5 255 ++ replicate 23 7 ++ 98 ∷ 254 ∷ replicate 6 255 ++ 127 ∷ replicate 23 7) 18446744073709551615 (100 ∷ []) ≡ (plain NotFound 0)
 unfolding entriesOf decode holds held freeRun every any rightLengths valueFits entrySound noneShared sound refuse checkSound _then_ checkClock clockChecks checkKey keyChecks dead same keyOf keyIs foundFrom lookUp memoryOf ask timeLeft ttlFound ttlCall
 v112-ttl = refl
 
 -- ttl: 8, rounds 0, removed 0
-pub v113-ttl : ttlCall (1 ∷ 1 ∷ 1 ∷ 4 ∷ 5 ∷ 0 ∷ 1 ∷ 20 ∷ replicate 18 0) (100 ∷ replicate 20 120 ++ replicate 107 0) 111 (100 ∷ []) ≡ (plain NotFound 0)
+pub v113-ttl : ttlCall (1 ∷ 3 ∷ 1 ∷ 3 ∷ 0 ∷ 3 ∷ 3 ∷ 8 ∷ 90 ∷ 4 ∷ 5 ∷ 1 ∷ 1 ∷ 60 ∷ 109 ∷ 1 ∷ 5 ∷ 0 ∷ 1 ∷ 1 ∷ replicate 6 0) (97 ∷ 1 ∷ replicate 30 0 ++ 98 ∷ replicate 60 120 ++ 0 ∷ 0 ∷ 0 ∷ 97 ∷ 98 ∷ 99 ∷ 89 ∷ 7 ∷ replicate 27 0) 99 (97 ∷ 98 ∷ 99 ∷ []) ≡ (plain NotFound 0)
 unfolding entriesOf decode holds held freeRun every any rightLengths valueFits entrySound noneShared sound refuse checkSound _then_ checkClock clockChecks checkKey keyChecks dead same keyOf keyIs foundFrom lookUp memoryOf ask timeLeft ttlFound ttlCall
 v113-ttl = refl
 
 -- ttl: 0, rounds 0, removed 0
-pub v114-ttl : ttlCall (1 ∷ 2 ∷ 129 ∷ 3 ∷ 5 ∷ 0 ∷ 1 ∷ 8 ∷ 0 ∷ 1 ∷ 4294967295 ∷ 1 ∷ 1 ∷ 1 ∷ []) (100 ∷ 229 ∷ 180 ∷ 214 ∷ 67 ∷ 195 ∷ 87 ∷ 242 ∷ 131 ∷ 120 ∷ replicate 22 7 ++ 99 ∷ 1 ∷ replicate 30 7) 128 (100 ∷ []) ≡ (plain (Count 1) 0)
+pub v114-ttl : ttlCall (1 ∷ 4 ∷ 131 ∷ 1 ∷ 5 ∷ 2 ∷ 2 ∷ 1 ∷ 165 ∷ 3 ∷ 0 ∷ 3 ∷ 1 ∷ 8 ∷ 143 ∷ 1 ∷ 4294967295 ∷ 1 ∷ 1 ∷ 1 ∷ 131 ∷ 1 ∷ 5 ∷ 0 ∷ 1 ∷ 1 ∷ []) (97 ∷ 1 ∷ replicate 30 0 ++ 100 ∷ 1 ∷ replicate 30 0 ++ 98 ∷ 97 ∷ 1 ∷ 231 ∷ replicate 6 255 ++ replicate 22 0 ++ 99 ∷ 134 ∷ 83 ∷ 1 ∷ replicate 28 0) 130 (97 ∷ []) ≡ (plain (Count 1) 0)
 unfolding entriesOf decode holds held freeRun every any rightLengths valueFits entrySound noneShared sound refuse checkSound _then_ checkClock clockChecks checkKey keyChecks dead same keyOf keyIs foundFrom lookUp memoryOf ask timeLeft ttlFound ttlCall
 v114-ttl = refl
 
 -- ttl: 0, rounds 0, removed 0
-pub v115-ttl : ttlCall (1 ∷ 2 ∷ 98 ∷ 1 ∷ 4294967295 ∷ 1 ∷ 1 ∷ 1 ∷ 94 ∷ 1 ∷ 5 ∷ 0 ∷ 1 ∷ 1 ∷ replicate 12 0) (100 ∷ 1 ∷ replicate 30 7 ++ 98 ∷ 1 ∷ replicate 94 7) 92 (100 ∷ []) ≡ (plain (Count 2) 0)
+pub v115-ttl : ttlCall (1 ∷ 1 ∷ 88 ∷ 1 ∷ 5 ∷ 0 ∷ 2 ∷ 1 ∷ replicate 6 0) (97 ∷ 98 ∷ 1 ∷ replicate 61 0) 86 (97 ∷ 98 ∷ []) ≡ (plain (Count 2) 0)
 unfolding entriesOf decode holds held freeRun every any rightLengths valueFits entrySound noneShared sound refuse checkSound _then_ checkClock clockChecks checkKey keyChecks dead same keyOf keyIs foundFrom lookUp memoryOf ask timeLeft ttlFound ttlCall
 v115-ttl = refl
 
--- bytes_at: 0 bytes
-pub v116-bytes-at : bytesAtCall (98 ∷ 1 ∷ replicate 30 7 ++ 98 ∷ replicate 20 120 ++ replicate 75 7) 0 0 ≡ []
+-- bytes_at: 9 bytes
+pub v116-bytes-at : bytesAtCall (97 ∷ 39 ∷ 181 ∷ replicate 29 0 ++ 97 ∷ 98 ∷ replicate 94 0) 5 9 ≡ (replicate 9 0)
 unfolding bytesStart bytesAtCall
 v116-bytes-at = refl
 
 -- the same: start
-pub v116-start : bytesStart (98 ∷ 1 ∷ replicate 30 7 ++ 98 ∷ replicate 20 120 ++ replicate 75 7) 0 0 ≡ 0
+pub v116-start : bytesStart (97 ∷ 39 ∷ 181 ∷ replicate 29 0 ++ 97 ∷ 98 ∷ replicate 94 0) 5 9 ≡ 5
 unfolding bytesStart bytesAtCall
 v116-start = refl
 
--- bytes_at: 1 bytes
-pub v117-bytes-at : bytesAtCall (99 ∷ 1 ∷ replicate 62 7) 0 1 ≡ (99 ∷ [])
+-- bytes_at: 9 bytes
+pub v117-bytes-at : bytesAtCall (98 ∷ replicate 8 120 ++ 255 ∷ 255 ∷ replicate 21 7 ++ 97 ∷ replicate 95 120) 5 9 ≡ (120 ∷ 120 ∷ 120 ∷ 120 ∷ 255 ∷ 255 ∷ 7 ∷ 7 ∷ 7 ∷ [])
 unfolding bytesStart bytesAtCall
 v117-bytes-at = refl
 
 -- the same: start
-pub v117-start : bytesStart (99 ∷ 1 ∷ replicate 62 7) 0 1 ≡ 0
+pub v117-start : bytesStart (98 ∷ replicate 8 120 ++ 255 ∷ 255 ∷ replicate 21 7 ++ 97 ∷ replicate 95 120) 5 9 ≡ 5
 unfolding bytesStart bytesAtCall
 v117-start = refl
 
--- bytes_at: 1 bytes
-pub v118-bytes-at : bytesAtCall (97 ∷ 98 ∷ 91 ∷ 29 ∷ 1 ∷ replicate 27 0 ++ 97 ∷ 98 ∷ 99 ∷ 1 ∷ replicate 92 0) 32 1 ≡ (97 ∷ [])
+-- bytes_at: 9 bytes
+pub v118-bytes-at : bytesAtCall (100 ∷ replicate 34 120 ++ replicate 29 0) 0 9 ≡ (100 ∷ replicate 8 120)
 unfolding bytesStart bytesAtCall
 v118-bytes-at = refl

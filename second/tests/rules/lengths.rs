@@ -41,9 +41,9 @@ fn the_whole_of_the_greatest_pool() {
     let key = "k".repeat(32_767);
     assert_eq!(yard.set(10, &key, words(b"x")), DONE);
     assert_eq!(yard.show(10, &key, "notice"), b"x");
-    assert_eq!(yard.set(10, &key, words(b"xx")), no_memory(0, 0));
+    assert_eq!(yard.set(10, &key, words(b"xx")), refused(12, 0));
     assert_eq!(yard.set(10, &"k".repeat(32_768), words(b"")), DONE);
-    assert_eq!(yard.set(10, &"k".repeat(32_769), words(b"")), no_memory(1, 1));
+    assert_eq!(yard.set(10, &"k".repeat(32_769), words(b"")), refused(12, 0));
     assert_eq!(yard.delete(10, &"k".repeat(65_535)), DONE);
     assert_eq!(yard.get(10, &"k".repeat(65_535)), refused(8, 0));
 }

@@ -105,10 +105,7 @@ fn expected(cells: usize, before: &[Entry], clock: u64, new: &New, safe: bool) -
     let best = places.map(|start| (cost(&line, &rounds, start, need), start)).min();
     match best {
         Some((cost, start)) if cost <= limit => finish(cost, rounds[..cost].iter().sum(), Some(entry(start)), line),
-        _ => {
-            let gone = rounds.len().min(limit);
-            finish(gone, rounds[..gone].iter().sum(), None, line)
-        }
+        _ => finish(0, 0, None, line),
     }
 }
 

@@ -74,18 +74,17 @@ fn a_failed_store_keeps_no_old_tare() {
     dead.dir[14] = 9; // b
     let live = Yard::full();
     let [set, safe_set, add, safe_add, replace] = FORMS;
-    for (yard, (form, safe)) in [(&live, set), (&live, safe_set), (&dead, add), (&dead, safe_add), (&live, replace)] {
+    for (yard, (form, _)) in [(&live, set), (&live, safe_set), (&dead, add), (&dead, safe_add), (&live, replace)] {
         let mut after = yard.clone();
-        let expected = if safe { no_memory(0, 0) } else { no_memory(3, 3) };
-        assert_eq!(after.store(form, 10, b"b", five_cells), expected);
-        assert_eq!(after.order(), if safe { "d c a" } else { "" });
+        assert_eq!(after.store(form, 10, b"b", five_cells), refused(12, 0));
+        assert_eq!(after.order(), "d c a");
         assert_eq!(after.pool, yard.pool);
     }
     // An incr that must place its initial number anew: the key needs two cells with a number, one with a boolean.
     let key = "k".repeat(31);
     let mut yard = Yard::with(1, &[boolean(&key, 0, 1).expiry(9)]);
     assert_eq!(yard.incr(8, &key, 1, Some((1, 0))), refused(10, 0));
-    assert_eq!(yard.incr(10, &key, 1, Some((1, 0))), no_memory(0, 1));
+    assert_eq!(yard.incr(10, &key, 1, Some((1, 0))), refused(12, 1));
     assert_eq!(yard.count(), 0);
 }
 
@@ -161,7 +160,7 @@ fn the_lowest_start_is_taken() {
         }
     }
     let mut after = yard.clone();
-    assert_eq!(after.safe_add(10, "n", words(&[0; 96])), no_memory(0, 0));
+    assert_eq!(after.safe_add(10, "n", words(&[0; 96])), refused(12, 0));
     assert_eq!(after, yard);
 }
 
@@ -177,19 +176,18 @@ fn thirty_rounds_and_not_one_more() {
     assert_eq!(yard.set(10, "n", words(&[0; 30 * 32 - 1])), stored(30, 30));
     assert_eq!((yard.count(), yard.record(0)[3]), (35, 0));
     let mut yard = one_cell_each(64, 0);
-    assert_eq!(yard.set(10, "n", words(&[0; 30 * 32])), no_memory(30, 30));
-    assert_eq!(yard.count(), 34);
-    assert_eq!(yard.key(33), b"0030");
+    assert_eq!(yard.set(10, "n", words(&[0; 30 * 32])), refused(12, 0));
+    assert_eq!(yard, one_cell_each(64, 0));
     let mut yard = one_cell_each(30, 0);
-    assert_eq!(yard.set(10, "n", words(&[0; 30 * 32])), no_memory(30, 30));
-    assert_eq!(yard.count(), 0);
+    assert_eq!(yard.set(10, "n", words(&[0; 30 * 32])), refused(12, 0));
+    assert_eq!(yard, one_cell_each(30, 0));
 }
 
 #[test]
 fn never_over_92_removed() {
     let mut yard = one_cell_each(128, 9);
-    assert_eq!(yard.set(10, "n", words(&[0; 128 * 32])), no_memory(30, 92));
-    assert_eq!(yard.count(), 36);
+    assert_eq!(yard.set(10, "n", words(&[0; 128 * 32])), refused(12, 2));
+    assert_eq!(yard.count(), 126);
     // Ninety-two cells are just enough for the last of the rounds.
     let mut yard = one_cell_each(128, 9);
     assert_eq!(yard.set(10, "n", words(&[0; 92 * 32 - 1])), Answer { forced: false, ..stored(30, 92) });
@@ -223,7 +221,7 @@ fn safe_forms_take_free_room() {
     let mut yard = Yard::fresh(2);
     assert_eq!(yard.safe_set(10, "a", weight(1)), DONE);
     assert_eq!(yard.safe_add(10, "b", weight(1)), DONE);
-    assert_eq!(yard.safe_add(10, "c", weight(1)), no_memory(0, 0));
+    assert_eq!(yard.safe_add(10, "c", weight(1)), refused(12, 0));
     assert_eq!(yard.safe_set(10, "a", weight(2)), DONE);
     assert_eq!(yard.order(), "a b");
 }
@@ -233,7 +231,8 @@ fn a_pool_of_one_cell() {
     let mut yard = Yard::fresh(1);
     assert_eq!(yard.set(10, "a", words(&[1; 31])), DONE);
     assert_eq!(yard.set(10, "b", words(&[2; 31])), stored(1, 1));
-    assert_eq!(yard.set(10, "c", words(&[3; 32])), no_memory(1, 1));
-    assert_eq!(yard.set(10, "c", words(&[3; 32])), no_memory(0, 0));
+    assert_eq!(yard.set(10, "c", words(&[3; 32])), refused(12, 0));
+    assert_eq!(yard.order(), "b");
+    assert_eq!(yard.set(10, "b", words(&[3; 32])), refused(12, 0));
     assert_eq!(yard.dir, Yard::fresh(1).dir);
 }

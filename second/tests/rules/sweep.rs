@@ -102,6 +102,6 @@ fn refusals_after_the_sweep_leave_it_done() {
     let mut yard = three_dead();
     assert_eq!(yard.incr(1000, "a", i64::MAX, None), refused(11, 2));
     let mut yard = three_dead();
-    assert_eq!(yard.safe_set(1000, "e", words(&[0; 160])), no_memory(0, 2));
+    assert_eq!(yard.safe_set(1000, "e", words(&[0; 160])), refused(12, 2));
     assert_eq!(yard.order(), "a b");
 }

@@ -122,11 +122,6 @@ pub fn stored(rounds: u64, removed: u64) -> Answer {
     Answer { rounds, removed, forced: rounds > 0, ..DONE }
 }
 
-/// What a store answers when it finds no memory, which is never forced.
-pub fn no_memory(rounds: u64, removed: u64) -> Answer {
-    Answer { outcome: 12, rounds, removed, ..DONE }
-}
-
 impl Yard {
     /// Buffers of the right lengths for that many cells, full of bytes and words that are not zero.
     pub fn wild(cells: usize) -> Yard {

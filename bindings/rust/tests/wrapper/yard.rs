@@ -7,7 +7,7 @@ pub const PLAIN: Stored = Stored { rounds: 0, removed: 0, forced: false };
 
 /// A refusal that tells nothing else.
 pub const fn bare(refusal: Refusal) -> Refused {
-    Refused { refusal, rounds: 0, removed: 0 }
+    Refused { refusal, removed: 0 }
 }
 
 /// An empty yard of four cells.

@@ -26,11 +26,11 @@ slice-aggregate-find-place c = back-length 1024 (sound-is _ _ (c .before .before
 find-place-requires : tie.Need-find-place-requires
 find-place-requires c κs = search needs
 
-rounds-of-requires : tie.Need-rounds-of-requires
-rounds-of-requires c κs = (sound-is _ _ (c .before .before .before .before .before .before .before .pre .0) .dir-is, omega (arith, c .find-place .ensures .few))
+find-leavers-requires : tie.Need-find-leavers-requires
+find-leavers-requires c κs = (sound-is _ _ (c .before .before .before .before .before .before .before .pre .0) .dir-is, omega (arith, c .find-place .ensures .few))
 
 returns : tie.Need-returns
-returns c = chosen-scratch 1024 (sound-is _ _ (c .before .before .before .before .before .before .before .before .pre .0)) (omega arith) (c .before .find-place .result .fit) (c .before .before .before .before .mark-line .ensures) (c .before .before .before .before .before .before .before .before .pre .1 .1) (c .before .find-place .ensures) (c .rounds-of .ensures)
+returns c = chosen-scratch 1024 (sound-is _ _ (c .before .before .before .before .before .before .before .before .pre .0)) (omega arith) (c .before .find-place .result .fit) (c .before .before .before .before .mark-line .ensures) (c .before .before .before .before .before .before .before .before .pre .1 .1) (c .before .find-place .ensures) (c .find-leavers .ensures)
 
 pub choose-spec : {M : Type 1} → statement M
 choose-spec =
@@ -42,5 +42,5 @@ choose-spec =
     array-share-prefix-marks
     slice-aggregate-find-place
     find-place-requires
-    rounds-of-requires
+    find-leavers-requires
     returns)

@@ -33,7 +33,7 @@ first-fit-requires-2 : tie.Need-first-fit-requires-2
 first-fit-requires-2 c κs = search needs
 
 returns-4 : tie.Need-returns-4
-returns-4 c = place-least (c .before .before .least-limit .ensures) (c .before .if2 .left) (c .first-fit2 .ensures .fit-is)
+returns-4 c = place-least (c .first-fit2 .result .fit) (c .before .before .least-limit .ensures) (c .before .if2 .left) (c .first-fit2 .ensures .fit-is)
 
 pub find-place-spec : {M : Type 1} → statement M
 find-place-spec =

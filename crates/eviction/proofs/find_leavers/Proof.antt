@@ -1,10 +1,10 @@
--- `eviction::rounds_of` meets its contract. What the entries left still add to the rounds begun and the entries gone makes the rounds of the whole line.
+-- `eviction::find_leavers` meets its contract. What the entries left still add to the rounds begun and the entries gone makes the rounds of the whole line.
 use mathlib.Core.Logic.{⊎-elim}
 use native.Mathlib.Omega.{arith}
 use Rattle.rules.specs.Layout.{entriesOf}
 use Rattle.eviction.specs.Leaving.{Leaving, leaving-none, leaving-more, leaves-stop, leaves-end}
-use Rattle.eviction.proofs.rounds_of.Statement.{statement}
-use Rattle.eviction.proofs.rounds_of.Tie as tie
+use Rattle.eviction.proofs.find_leavers.Statement.{statement}
+use Rattle.eviction.proofs.find_leavers.Tie as tie
 
 abbrev Inv-loop : tie.InvT-loop
 Inv-loop dir clock limit n turn₀ left₀ live₀ turn left live = Leaving clock limit (entriesOf dir) left turn live
@@ -42,17 +42,14 @@ loop-less c = omega arith
 loop-again : tie.Need-loop-again Inv-loop μ-loop
 loop-again c = leaving-more (c .before .before .before .before .before .before .loop .inv) (omega arith) (c .before .before .before .before .before .before .before .before .before .pre .1) (c .before .before .before .before .record-at .ensures) (c .before .before .before .is-dead .ensures) (c .before .before .next-turn .ensures) (c .if1 .left)
 
-cast-t13 : tie.Need-cast-t13 Inv-loop μ-loop
-cast-t13 c = omega arith
-
-sub-t14 : tie.Need-sub-t14 Inv-loop μ-loop
-sub-t14 c = omega (arith, c .before .before .loop .inv .count, c .before .before .before .count .ensures)
+sub-t13 : tie.Need-sub-t13 Inv-loop μ-loop
+sub-t13 c = omega (arith, c .before .loop .inv .count, c .before .before .count .ensures)
 
 returns : tie.Need-returns Inv-loop μ-loop
-returns c = ⊎-elim (λ w. leaves-end (c .before .before .loop .inv) (c .before .before .before .count .ensures) (omega arith)) (λ w. leaves-stop (c .before .before .loop .inv) (c .before .before .before .count .ensures) (omega arith) (w .1 .ensures) (w .2 .ensures) (w .3 .ensures) (w .5 .taken)) (c .before .loop-test .came)
+returns c = ⊎-elim (λ w. leaves-end (c .before .loop .inv) (c .before .before .count .ensures) (omega arith)) (λ w. leaves-stop (c .before .loop .inv) (c .before .before .count .ensures) (omega arith) (w .1 .ensures) (w .2 .ensures) (w .3 .ensures) (w .5 .taken)) (c .loop-test .came)
 
-pub rounds-of-spec : {M : Type 1} → statement M
-rounds-of-spec =
+pub find-leavers-spec : {M : Type 1} → statement M
+find-leavers-spec =
     tie.close
     (tie.spec
     Inv-loop
@@ -67,6 +64,5 @@ rounds-of-spec =
     sub-left
     loop-less
     loop-again
-    cast-t13
-    sub-t14
+    sub-t13
     returns)
