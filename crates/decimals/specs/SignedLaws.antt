@@ -40,11 +40,6 @@ module _ {z : ℤ} {b : ℕ} (f : SFits w64 z) (e : b ≡ ofZ w64 (held z)) wher
 pub magnitude-most : (n : ℕ) → n ≤ 2 ^ 63 → length (decimal n) ≤ 19
 magnitude-most n h = length-within 20 18 n (omega arith)
 
-pub signed-most : (z : ℤ) → SFits w64 z → length (signed z) ≤ 20
-unfolding signed
-signed-most (pos n) f = omega (arith, magnitude-most n (omega (arith, f .sfits)))
-signed-most (negsuc n) f = omega (arith, magnitude-most (suc n) (omega (arith, f .sfits)))
-
 -- ---- one byte, and then others behind it
 
 pub put-behind : (d : List ℕ) (at v : ℕ) (s : List ℕ) → at + 1 + length s ≤ length d → put (set d at v) (at + 1) s ≡ put d at (v ∷ s)

@@ -84,10 +84,6 @@ module _ (dir pool : List ℕ) (t : sound dir pool ≡ true) where
   pub step-length : {m : Memory} {dir' pool' : List ℕ} → SoundMemory P m → Holds (length dir) m dir' pool' → length dir' ≡ length dir
   step-length {m} s h = ap length (h .words) ∙ length-encode (length dir) (m .entries) (omega (arith, few s, given-sound .dir-size))
 
-  pub step-cells : {m : Memory} {dir' pool' : List ℕ} → SoundMemory P m → Holds (length dir) m dir' pool' → length pool' ≡ length pool
-  unfolding memoryOf
-  step-cells {m} s h = ap length (h .bytes) ∙ s .pool-size ∙ sym (given-memory .pool-size)
-
   -- ---- what the steps leave is sound
 
   pub removed-sound : (i : ℕ) → SoundMemory P (remove i before)

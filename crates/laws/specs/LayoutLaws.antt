@@ -97,10 +97,6 @@ put-then d at a b h =
     ∙ ap (λ (l : List ℕ). (x ++ b) ++ l) (dropped ∙ ap (λ (k : ℕ). drop k d) whole)
     ∙ ap (λ (l : List ℕ). l ++ drop (at + length (a ++ b)) d) (append-assoc (take at d) a b)
 
-pub length-without : (i : ℕ) (es : List Entry) → i < length es → length (without i es) ≡ length es - 1
-unfolding without
-length-without i es h = simp (length-append, length-drop, length-take) (omega arith)
-
 -- the last entry taken out
 pub without-last : (es : List Entry) → without (length es - 1) es ≡ take (length es - 1) es
 unfolding without
