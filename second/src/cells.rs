@@ -13,7 +13,6 @@ pub fn need(bytes: usize) -> usize {
 }
 
 /// Which of the P cells are held by an entry.
-#[derive(Clone)]
 pub(crate) struct CellMap {
     taken: [bool; MOST_CELLS],
     cells: usize,

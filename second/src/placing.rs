@@ -92,10 +92,9 @@ fn place(dir: &mut [u64], pool: &mut [u8], cells: &mut CellMap, clock: u64, item
     answer
 }
 
-/// Runs rounds on a copy of the cell map until there is a place: its start, and what the call will answer. None "if no
-/// number of rounds up to 30 would make room".
-fn try_rounds(dir: &[u64], cells: &CellMap, clock: u64, need: usize, most: u64) -> Option<(usize, Answer)> {
-    let mut cells = cells.clone();
+/// Runs rounds on the cell map alone until there is a place: its start, and what the call will answer. None "if no
+/// number of rounds up to 30 would make room"; the call then ends, and nobody looks at the map again.
+fn try_rounds(dir: &[u64], cells: &mut CellMap, clock: u64, need: usize, most: u64) -> Option<(usize, Answer)> {
     let mut line = (0..count(dir)).rev().map(|slot| entry(dir, slot)).peekable();
     let mut answer = Answer::done();
     loop {

@@ -83,7 +83,7 @@ fn place_anew(
     let need = values::need(key.len(), value.len());
     let choice = eviction::choose(dir, pool, clock, need, order.most);
     let fit = choice.fit;
-    memory::remove_oldest(dir, pool, choice.gone);
+    memory::remove_oldest(dir, pool, choice.gone); // none if there is no place
     let removed = order.removed + choice.gone;
     let Fit::Start(start) = fit else {
         return Answer {
