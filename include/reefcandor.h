@@ -109,9 +109,13 @@ extern "C" {
  *
  * "Sweeps": up to two dead entries leave first at the long-unused end, up to the first live one; the answer's
  * removed counts them.
+ *
+ * Whenever an entry leaves, by whatever call, all its cells become zero at once, also where the call is refused with 8,
+ * 9, 10, 11 or 12. Free cells need not be zero for a memory to be sound: one that an earlier edition left still loads.
  */
 
-/* Makes an empty memory, whatever stood there, in buffers of the right lengths; else 1. The pool stays. */
+/* Makes an empty memory, whatever stood there, in buffers of the right lengths; else 1. The whole pool becomes
+ * zero. */
 void reefcandor_make_fresh(uint64_t *dir, size_t dir_len, uint8_t *pool, size_t pool_len,
                            uint64_t answer[REEFCANDOR_ANSWER_WORDS]);
 

@@ -252,6 +252,7 @@ class Plates(Yard):
         self.assertEqual(self.order(), "bdca")
         self.refuses(Outcome.NO_MEMORY, self.yard.safe_set, "a", text_for(2))
         self.assertEqual(self.order(), "bdc")
+        self.assertEqual(bytes(self.yard._pool)[:33], bytes(32) + b"b")
 
 
 class Refusals(Yard):
@@ -348,7 +349,7 @@ class Buffers(unittest.TestCase):
         yard.make_fresh()
         yard["AB12"] = b"tare"
         self.assertEqual(list(directory), [1, 1, 0, 4, 0, 0, 4, 4] + [0] * 18)
-        self.assertEqual(pool[:9], b"AB12tare\xff")
+        self.assertEqual(pool, b"AB12tare" + bytes(len(pool) - 8))
         self.assertEqual(self.over(directory, memoryview(pool)).items(), [(b"AB12", b"tare")])
 
     def test_a_mapped_file(self):

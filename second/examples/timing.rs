@@ -19,7 +19,7 @@ fn put(dir: &mut [u64], pool: &mut [u8], number: usize) -> Answer {
 fn full_yard() -> (Vec<u64>, Vec<u8>) {
     let mut dir = vec![0; 2 + 6 * CELLS];
     let mut pool = vec![0; 32 * CELLS];
-    make_fresh(&mut dir, &pool);
+    make_fresh(&mut dir, &mut pool);
     for number in 0..CELLS {
         assert_eq!(put(&mut dir, &mut pool, number), Answer::default());
     }
@@ -42,10 +42,10 @@ fn main() {
     let longest_unused = |number: usize| plates[number * 389 % CELLS].as_bytes();
     let any = |number: usize| plates[number.wrapping_mul(0x9E37_79B9_7F4A_7C15) >> 54].as_bytes();
 
-    time("get, any key", |number| get(&mut dir, &pool, 1000, any(number)));
-    time("get, longest unused key", |number| get(&mut dir, &pool, 1000, longest_unused(number)));
-    time("get, front key", |_| get(&mut dir, &pool, 1000, any(0)));
-    time("get, missing key", |_| get(&mut dir, &pool, 1000, b"plate-absent"));
+    time("get, any key", |number| get(&mut dir, &mut pool, 1000, any(number)));
+    time("get, longest unused key", |number| get(&mut dir, &mut pool, 1000, longest_unused(number)));
+    time("get, front key", |_| get(&mut dir, &mut pool, 1000, any(0)));
+    time("get, missing key", |_| get(&mut dir, &mut pool, 1000, b"plate-absent"));
     time("set, any key in place", |number| set(&mut dir, &mut pool, 1000, any(number), kind::NUMBER, 7, b"", 0, 0));
     time("set, new key, one round", |number| put(&mut dir, &mut pool, CELLS + number));
     assert!(audit(&dir, &pool));

@@ -147,9 +147,12 @@ pub(crate) fn insert_in_front(dir: &mut [u64], cells: &mut CellMap, entry: &Entr
     cells.take(entry.cells());
 }
 
-/// "Removing an entry closes the gap in the records, zeroes the last one and leaves the pool bytes."
-pub(crate) fn remove(dir: &mut [u64], cells: &mut CellMap, slot: usize) {
-    cells.release(entry(dir, slot).cells());
+/// "Removing an entry closes the gap in the records, zeroes the last one". Request 2 of document 02: "all its cells
+/// become zero at once".
+pub(crate) fn remove(dir: &mut [u64], pool: &mut [u8], cells: &mut CellMap, slot: usize) {
+    let run = entry(dir, slot).cells();
+    pool[CELL * run.start..CELL * run.end].fill(0);
+    cells.release(run);
     let last = record(count(dir) - 1);
     let gap = record(slot);
     dir.copy_within(gap.end..last.end, gap.start);

@@ -17,7 +17,7 @@ pub fn incr(
         Ok(checked) => checked,
         Err(outcome) => return Answer::refused(outcome),
     };
-    let swept = sweep(dir, &mut cells, clock);
+    let swept = sweep(dir, pool, &mut cells, clock);
     let initial = initial.map(|(number, _)| number);
     incr_swept(dir, pool, &mut cells, clock, key, step, initial, expiry).after_sweep(swept)
 }

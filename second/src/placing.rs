@@ -34,10 +34,10 @@ impl Item<'_> {
 
 /// "Sweep. get, all stores, delete and incr first remove up to two dead entries from the long-unused end, stopping at
 /// the first live one." Gives how many it removed.
-pub(crate) fn sweep(dir: &mut [u64], cells: &mut CellMap, clock: u64) -> u64 {
+pub(crate) fn sweep(dir: &mut [u64], pool: &mut [u8], cells: &mut CellMap, clock: u64) -> u64 {
     let mut removed = 0;
     while removed < SWEEP && last_is_dead(dir, clock) {
-        evict_last(dir, cells);
+        evict_last(dir, pool, cells);
         removed += 1;
     }
     removed
@@ -50,9 +50,9 @@ fn last_is_dead(dir: &[u64], clock: u64) -> bool {
     }
 }
 
-fn evict_last(dir: &mut [u64], cells: &mut CellMap) {
+fn evict_last(dir: &mut [u64], pool: &mut [u8], cells: &mut CellMap) {
     let last = count(dir) - 1;
-    remove(dir, cells, last);
+    remove(dir, pool, cells, last);
 }
 
 /// Stores an item: in place of the key's own entry if that has an equal value length, else anew.
@@ -70,7 +70,7 @@ pub(crate) fn put(
             return Answer::done();
         }
         // "With another length it is removed first."
-        remove(dir, cells, slot);
+        remove(dir, pool, cells, slot);
     }
     place(dir, pool, cells, clock, item, safe)
 }
@@ -84,7 +84,7 @@ fn place(dir: &mut [u64], pool: &mut [u8], cells: &mut CellMap, clock: u64, item
         return Answer { outcome: NO_MEMORY, ..Answer::done() };
     };
     for _ in 0..answer.removed {
-        evict_last(dir, cells);
+        evict_last(dir, pool, cells);
     }
     let new = item.at(start as u64);
     write_item(pool, &new, item);

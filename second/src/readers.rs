@@ -10,12 +10,12 @@ use crate::directory::{entries, entry, find, find_live, kind, move_to_front, Ent
 use crate::placing::sweep;
 
 /// "get: live entry, answer it and move it to the front; else 8."
-pub fn get(dir: &mut [u64], pool: &[u8], clock: u64, key: &[u8]) -> Answer {
+pub fn get(dir: &mut [u64], pool: &mut [u8], clock: u64, key: &[u8]) -> Answer {
     let mut cells = match check_keyed(dir, pool, clock, key) {
         Ok(cells) => cells,
         Err(outcome) => return Answer::refused(outcome),
     };
-    let swept = sweep(dir, &mut cells, clock);
+    let swept = sweep(dir, pool, &mut cells, clock);
     let Some(slot) = find_live(dir, pool, clock, key) else {
         return Answer::refused(NOT_FOUND).after_sweep(swept);
     };

@@ -91,20 +91,20 @@ pub fn replace(
 }
 
 /// "delete, which removes the entry, live or dead, and answers 0 also when nothing was there."
-pub fn delete(dir: &mut [u64], pool: &[u8], clock: u64, key: &[u8]) -> Answer {
+pub fn delete(dir: &mut [u64], pool: &mut [u8], clock: u64, key: &[u8]) -> Answer {
     let mut cells = match check_keyed(dir, pool, clock, key) {
         Ok(cells) => cells,
         Err(outcome) => return Answer::refused(outcome),
     };
-    let swept = sweep(dir, &mut cells, clock);
+    let swept = sweep(dir, pool, &mut cells, clock);
     let own = find(dir, pool, key);
-    remove_own(dir, &mut cells, own).after_sweep(swept)
+    remove_own(dir, pool, &mut cells, own).after_sweep(swept)
 }
 
 /// Removes the entry of the call's own key, if there is one. It "isn't counted".
-fn remove_own(dir: &mut [u64], cells: &mut CellMap, own: Option<usize>) -> Answer {
+fn remove_own(dir: &mut [u64], pool: &mut [u8], cells: &mut CellMap, own: Option<usize>) -> Answer {
     if let Some(slot) = own {
-        remove(dir, cells, slot);
+        remove(dir, pool, cells, slot);
     }
     Answer::done()
 }
@@ -115,7 +115,7 @@ fn store(form: Store, dir: &mut [u64], pool: &mut [u8], clock: u64, key: &[u8], 
         Ok(checked) => checked,
         Err(outcome) => return Answer::refused(outcome),
     };
-    let swept = sweep(dir, &mut cells, clock);
+    let swept = sweep(dir, pool, &mut cells, clock);
     store_swept(form, dir, pool, &mut cells, clock, key, given, expiry).after_sweep(swept)
 }
 
@@ -148,7 +148,7 @@ fn store_swept(
     }
     // "Nil in set or safe_set is delete"
     if given.kind == kind::NIL {
-        return remove_own(dir, cells, own);
+        return remove_own(dir, pool, cells, own);
     }
     // "A boolean is stored as 1 for any number but 0."
     let boolean = [u8::from(given.number != 0)];

@@ -7,13 +7,15 @@ use crate::answer::{
 use crate::checks::{check_clocked, check_keyed, check_lifetime, check_memory, pool_cells};
 use crate::directory::{count, entry, find_live, remove, write, Entry, FORM};
 
-/// "Make fresh takes any contents of the right lengths, writes the empty directory and leaves the pool."
-pub fn make_fresh(dir: &mut [u64], pool: &[u8]) -> Answer {
+/// "Make fresh takes any contents of the right lengths, writes the empty directory". Request 2 of document 02: it "now
+/// zeroes the whole pool".
+pub fn make_fresh(dir: &mut [u64], pool: &mut [u8]) -> Answer {
     if pool_cells(dir, pool).is_none() {
         return Answer::refused(NOT_SOUND);
     }
     dir.fill(0);
     dir[0] = FORM;
+    pool.fill(0);
     Answer::done()
 }
 
@@ -45,7 +47,7 @@ pub fn flush_all(dir: &mut [u64], pool: &[u8]) -> Answer {
 
 /// "flush_expired: removes dead entries, longest unused first, up to a maximum (0 for all), and reports how many as
 /// removed." It passes over live entries (point 41).
-pub fn flush_expired(dir: &mut [u64], pool: &[u8], clock: u64, maximum: u64) -> Answer {
+pub fn flush_expired(dir: &mut [u64], pool: &mut [u8], clock: u64, maximum: u64) -> Answer {
     let mut cells = match check_clocked(dir, pool, clock) {
         Ok(cells) => cells,
         Err(outcome) => return Answer::refused(outcome),
@@ -56,7 +58,7 @@ pub fn flush_expired(dir: &mut [u64], pool: &[u8], clock: u64, maximum: u64) -> 
             break;
         }
         if entry(dir, slot).is_dead(clock) {
-            remove(dir, &mut cells, slot);
+            remove(dir, pool, &mut cells, slot);
             removed += 1;
         }
     }

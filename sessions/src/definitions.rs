@@ -15,7 +15,7 @@ const FILES: [(&str, &str); 11] = [
     (
         "Layout",
         "encode decode flat entriesOf without toFront replaceAt put keyOf valueBytes numberBytes numberAt memoryOf \
-         remove removeOldest moveToFront",
+         wiped remove removeOldest moveToFront",
     ),
     ("Time", "dead expiryOf tooLate timeLeft withExpiry"),
     ("LookUp", "same keyIs foundFrom lookUp"),
@@ -45,11 +45,11 @@ const CLOCK: &str = "_then_ checkClock clockChecks";
 const KEY: &str = "checkKey keyChecks";
 const CHANGE: &str = "memoryOf encode flat call";
 const FIND: &str = "dead same keyOf keyIs foundFrom lookUp";
-const SWEEP: &str = "deads without remove removeOldest sweepCount sweep afterSweep";
+const SWEEP: &str = "deads without put wiped remove removeOldest sweepCount sweep afterSweep";
 const READ: &str = "shown numberAt";
-const PUT: &str = "expiryOf entryFor put placeAt toFront rewriteAt overwriteAt after gone anyLive fitFrom firstFree \
-    run searched isPlaced ifRoom evicted forcedBy fitOutcome placeFit placedBy placeAnew storeOver storeItem \
-    mostRounds booleanByte numberBytes valueGiven itemOf";
+const PUT: &str = "expiryOf entryFor placeAt toFront rewriteAt overwriteAt after gone anyLive fitFrom firstFree run \
+    searched isPlaced ifRoom evicted forcedBy fitOutcome placeFit placedBy placeAnew storeOver storeItem mostRounds \
+    booleanByte numberBytes valueGiven itemOf";
 const STORE: &str = "checkKind takesNil checkNil tooLate checkLifetime storeChecks admits deleteFound storeAdmitted \
     storeFound storeWork storeCall";
 const INCR: &str = "tooLate checkLifetime checkInitial incrChecks numberAt inRange addAt incrLive incrNew incrInitial \
@@ -81,7 +81,7 @@ pub fn opened(name: Name) -> Vec<&'static str> {
         ],
         Name::FlushAll => &[SOUND, CHANGE, "withExpiry flushAllWork flushAllCall"],
         Name::FlushExpired => {
-            &[SOUND, CLOCK, CHANGE, "dead without remove flushed upTo flushExpiredWork flushExpiredCall"]
+            &[SOUND, CLOCK, CHANGE, "dead without put wiped remove flushed upTo flushExpiredWork flushExpiredCall"]
         }
         Name::GetKeys => &[SOUND, CLOCK, LIST, "rowWords listedFlat flatKeysOf getKeysFlatCall"],
     };

@@ -71,6 +71,12 @@ impl Duel {
         }
     }
 
+    /// What both programs did alike and no program may do.
+    pub fn objection(&self, call: &Call, reply: &Reply, place: String) -> Box<Difference> {
+        let (before, call) = (self.before.clone(), call.clone());
+        Box::new(Difference { before, call, second: Some(reply.clone()), library: Some(reply.clone()), place })
+    }
+
     fn first_difference(&self, second: &Reply, library: &Reply) -> Option<String> {
         let (dir, pool) = (self.library_dir.contents(), self.library_pool.contents());
         if !self.library_dir.is_intact() {

@@ -53,6 +53,16 @@ impl Memory {
         &mut self.dir[HEAD + RECORD * slot..HEAD + RECORD * (slot + 1)]
     }
 
+    /// The first byte of a sound memory's pool that is in no key and no value and is not zero.
+    pub fn left_over(&self) -> Option<usize> {
+        let mut pool = self.pool.clone();
+        for slot in 0..self.count() {
+            let [start, key, value] = [3, 4, 5].map(|word| self.record(slot)[word] as usize);
+            pool[CELL * start..][..key + value].fill(0);
+        }
+        pool.iter().position(|&byte| byte != 0)
+    }
+
     /// Takes over the contents of another memory, without making new buffers where the old ones have room.
     pub fn copy(&mut self, other: &Memory) {
         self.dir.clone_from(&other.dir);

@@ -1,7 +1,7 @@
 //! Long random sessions: scenes that follow one another, each with a memory, keys and a clock, and calls in it.
 
 use crate::arguments;
-use crate::call::{Name, NAMES};
+use crate::call::{Call, Name, Reply, NAMES};
 use crate::corrupt;
 use crate::coverage::{Coverage, Scene};
 use crate::duel::{Difference, Duel};
@@ -81,9 +81,20 @@ impl Session {
         let call = arguments::draw(&mut self.random, name, self.duel.memory(), &self.keys, clock);
         let reply = self.duel.call(&call)?;
         let scene = if self.sound.is_some() { Scene::Changed } else { self.scene };
+        if scene == Scene::Fresh {
+            self.look_for_left_over(&call, &reply)?;
+        }
         self.coverage.count(scene, &call, &reply, self.duel.memory().count());
         self.made += 1;
         Ok(())
+    }
+
+    /// From a fresh memory on nothing is left in the pool of an entry that has gone.
+    fn look_for_left_over(&self, call: &Call, reply: &Reply) -> Result<(), Box<Difference>> {
+        match self.duel.memory().left_over() {
+            None => Ok(()),
+            Some(at) => Err(self.duel.objection(call, reply, format!("byte {at} of the pool is no entry's and not 0"))),
+        }
     }
 
     fn change_scene(&mut self) {

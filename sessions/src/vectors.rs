@@ -119,7 +119,7 @@ fn met(vector: &Vector) -> u64 {
     }
     // the sweep may take the key's entry before the call looks for it
     let mut swept = before.clone();
-    second::get(&mut swept.dir, &swept.pool, args.clock, b"no such key");
+    second::get(&mut swept.dir, &mut swept.pool, args.clock, b"no such key");
     8 * own_entry(before, args) + own_entry(&swept, args)
 }
 

@@ -51,7 +51,7 @@ static const uint8_t *bytes(const char *s) {
 
 static void fresh(void) {
     memset(dir, 0xff, sizeof dir);
-    memset(pool, 0, sizeof pool);
+    memset(pool, 0xff, sizeof pool);
     memset(answer, 0xa5, sizeof answer);
     reefcandor_make_fresh(dir, DIR, pool, POOL, answer);
 }
@@ -170,6 +170,32 @@ static void only_dead_ones_go(void) {
     answers((struct told){.rounds = 1, .removed = 3}, "only dead ones go: not forced");
     order("ed", "only dead ones go: d stays");
     start_of_first(0, "only dead ones go: start");
+}
+
+/* the cells from one on are zero */
+static bool wiped(size_t cell, size_t count) {
+    bool zero = true;
+    for (size_t k = 0; k < REEFCANDOR_CELL_BYTES * count; k += 1) {
+        zero = zero && pool[REEFCANDOR_CELL_BYTES * cell + k] == 0;
+    }
+    return zero;
+}
+
+static void given_up_cells(void) {
+    memset(text, 'x', sizeof text);
+    fresh();
+    expect(wiped(0, CELLS), "a fresh pool is zero");
+    set_cells("a", 2);
+    set_cells("b", 2);
+    reefcandor_delete(dir, DIR, pool, POOL, 1000, bytes("a"), 1, answer);
+    expect(wiped(0, 2) && !wiped(2, 1) && !wiped(3, 1), "a delete wipes the entry's cells and no others");
+    safe_set_cells("b", 5);
+    answers((struct told){.outcome = REEFCANDOR_NO_MEMORY}, "12 for five cells");
+    expect(wiped(0, CELLS), "a store that is refused with 12 has wiped the old entry");
+    full_yard(0);
+    set_number(1000, "e", 5, 0);
+    answers((struct told){.rounds = 1, .removed = 1, .forced = 1}, "e in the cell of a");
+    expect(pool[0] == 'e' && pool[9] == 0, "the new entry stands in the cell that was wiped");
 }
 
 static void p9_to_p12(void) {
@@ -334,6 +360,7 @@ int main(void) {
     p2_to_p4();
     p5_to_p8();
     only_dead_ones_go();
+    given_up_cells();
     p9_to_p12();
     replay_example();
     keys_and_numbers();

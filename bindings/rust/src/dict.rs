@@ -88,7 +88,7 @@ impl<D: AsRef<[u64]>, P: AsRef<[u8]>> Dict<D, P> {
 }
 
 impl<D: AsMut<[u64]>, P: AsMut<[u8]>> Dict<D, P> {
-    /// Makes an empty memory, whatever stood there, in buffers of the right lengths. The pool stays as it is.
+    /// Makes an empty memory, whatever stood there, in buffers of the right lengths. The whole pool becomes zero.
     pub fn make_fresh(&mut self) -> Result<(), Refused> {
         let (dir, pool) = (self.dir.as_mut(), self.pool.as_mut());
         let mut words = UNWRITTEN;

@@ -4,7 +4,7 @@ use mathlib.Core.Bool.{Bool, true, false, not, cond}
 use mathlib.Core.List.{List, []}
 use Prim.Native.Nat.{ℕ}
 use native.Mathlib.Omega.{arith}
-use lib.ListN.{length}
+use lib.ListN.{length, length-replicate}
 use Rattle.rules.specs.declared.Outcome.the-variants.{NotSound}
 use Rattle.rules.specs.declared.Check.the-variants.{Passed, Refused}
 use Rattle.rules.specs.Layout.{cellsOf, memoryOf}
@@ -59,7 +59,7 @@ unfolding freshCall freshWork call checkLengths refuse memoryOf
 fresh-lengths dir pool = go (rightLengths dir pool) refl
   where
     go : (x : Bool) → rightLengths dir pool ≡ x → (length (call (cond (not x) (Refused NotSound) Passed) freshWork dir pool .dir) ≡ length dir) × (length (call (cond (not x) (Refused NotSound) Passed) freshWork dir pool .pool) ≡ length pool)
-    go true t = (length-encode (length dir) [] (omega (arith, lengths-are dir pool t)), refl)
+    go true t = (length-encode (length dir) [] (omega (arith, lengths-are dir pool t)), length-replicate (length pool) 0)
     go false t = (refl, refl)
 
 pub same-lengths : (c : Call) (b : Buffers) → SameLengths b (step c b)

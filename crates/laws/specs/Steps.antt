@@ -1,10 +1,10 @@
 -- Sequences of calls.
-use mathlib.Core.Path.{_≡_}
+use mathlib.Core.Path.{_≡_, _∙_}
 use mathlib.Core.Bool.{true}
 use mathlib.Core.List.{List, [], _∷_}
 use Prim.Native.Nat.{ℕ, _^_, _≤_, _<_}
 use native.Mathlib.Omega.{arith}
-use lib.ListN.{length}
+use lib.ListN.{length, replicate, length-replicate}
 use lib.IntN.{ℤ}
 use Rattle.rules.specs.declared.Check.the-variants.{Passed}
 use Rattle.rules.specs.declared.Operation.{Operation}
@@ -61,7 +61,11 @@ steps (c ∷ cs) b = steps cs (step c b)
 
 -- ---- what is kept
 
-module _ (P : ℕ) (Inv : Memory → Type 0) (Open : List ℕ → Memory → Type 0) (k : Kept P Inv Open) (fewer : (m : Memory) → Inv m → length (m .entries) ≤ P) (empty : (m : Memory) → Inv m → Inv (record { entries = []; pool = m .pool })) where
+-- what make fresh leaves
+abbrev pub emptied : Memory → Memory
+emptied m = record { entries = []; pool = replicate (length (m .pool)) 0 }
+
+module _ (P : ℕ) (Inv : Memory → Type 0) (Open : List ℕ → Memory → Type 0) (k : Kept P Inv Open) (fewer : (m : Memory) → Inv m → length (m .entries) ≤ P) (empty : (m : Memory) → Inv m → Inv (emptied m)) where
   pub step-kept : (c : Call) (b : Buffers) → Carries Inv P (b .dir) (b .pool) → Carries Inv P (step c b .dir) (step c b .pool)
   unfolding step freshCall freshWork getCall storeCall deleteCall incrCall expireCall flushAllCall flushExpiredCall
   step-kept fresh b h = carries-call P (checkLengths (b .dir) (b .pool)) freshWork (b .dir) (b .pool) fewer h (λ e i. empty (memoryOf (b .dir) (b .pool)) i)
@@ -88,8 +92,8 @@ module _ (P : ℕ) (Inv : Memory → Type 0) (Open : List ℕ → Memory → Typ
   steps-kept [] b h = h
   steps-kept (c ∷ cs) b h = steps-kept cs (step c b) (step-kept c b h)
 
-empty-sound : (P : ℕ) (m : Memory) → SoundMemory P m → SoundMemory P (record { entries = []; pool = m .pool })
-empty-sound P m h = record { some-cell = h .some-cell; few-cells = h .few-cells; pool-size = h .pool-size; each = nil; apart = none-yet }
+pub empty-sound : (P : ℕ) (m : Memory) → SoundMemory P m → SoundMemory P (emptied m)
+empty-sound P m h = record { some-cell = h .some-cell; few-cells = h .few-cells; pool-size = length-replicate (length (m .pool)) 0 ∙ h .pool-size; each = nil; apart = none-yet }
 
 -- ---- the statements
 
@@ -108,7 +112,7 @@ sound-steps cs b t =
     let P : ℕ = cellsOf (b .pool) in
     carries-sound (steps-kept P (SoundMemory P) (λ key m. Unit {0}) (sound-kept P) (λ m. few) (empty-sound P) cs b (sound-carries (b .dir) (b .pool) t))
 
-empty-audited : (P : ℕ) (m : Memory) → Audited P m → Audited P (record { entries = []; pool = m .pool })
+empty-audited : (P : ℕ) (m : Memory) → Audited P m → Audited P (emptied m)
 empty-audited P m h = record { sound = empty-sound P m (h .sound); keys = none-yet }
 
 -- and one that audit praises, praised
@@ -120,7 +124,7 @@ audit-steps cs b t =
 
 -- ---- make fresh
 
-fresh-passed : (dir pool : List ℕ) → rightLengths dir pool ≡ true → checkLengths dir pool ≡ Passed
+pub fresh-passed : (dir pool : List ℕ) → rightLengths dir pool ≡ true → checkLengths dir pool ≡ Passed
 unfolding checkLengths refuse
 fresh-passed dir pool t = rw t
 
@@ -130,8 +134,8 @@ unfolding step freshCall freshWork memoryOf
 fresh-audit b t =
     let l : Lengths (b .dir) (b .pool) = lengths-are (b .dir) (b .pool) t in
     let P : ℕ = cellsOf (b .pool) in
-    let m : Memory = record { entries = []; pool = b .pool } in
-    let a : Audited P m = record { sound = record { some-cell = l .some-cell; few-cells = l .few-cells; pool-size = l .pool-size; each = nil; apart = none-yet }; keys = none-yet } in
+    let m : Memory = emptied (memoryOf (b .dir) (b .pool)) in
+    let a : Audited P m = record { sound = record { some-cell = l .some-cell; few-cells = l .few-cells; pool-size = length-replicate (length (b .pool)) 0 ∙ l .pool-size; each = nil; apart = none-yet }; keys = none-yet } in
     rw (call-passed (checkLengths (b .dir) (b .pool)) (b .dir) (b .pool) freshWork (fresh-passed (b .dir) (b .pool) t))
     (carries-audit (carries-encode P (length (b .dir)) m (l .dir-size) (omega arith) a))
 

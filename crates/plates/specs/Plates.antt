@@ -9,7 +9,7 @@ use Rattle.rules.specs.declared.Entry.{Entry}
 use Rattle.rules.specs.declared.Outcome.the-variants.{Done, Number, Count, KeyEmpty, NotFound, NoMemory}
 use Rattle.rules.specs.declared.Operation.{Operation}
 use Rattle.rules.specs.declared.Operation.the-variants.{Set, SafeSet}
-use Rattle.rules.specs.Layout.{need, encode, decode, flat, entriesOf, without, toFront, put, keyOf, numberBytes, numberAt, memoryOf, remove, removeOldest, moveToFront}
+use Rattle.rules.specs.Layout.{need, encode, decode, flat, entriesOf, without, toFront, put, keyOf, numberBytes, numberAt, memoryOf, wiped, remove, removeOldest, moveToFront}
 use Rattle.rules.specs.Time.{dead, expiryOf, tooLate, timeLeft}
 use Rattle.rules.specs.LookUp.{same, keyIs, foundFrom, lookUp}
 use Rattle.rules.specs.Recency.{deads, after, gone, sweepCount, sweep, anyLive}
@@ -126,6 +126,8 @@ pub record Plates : Type 0 where
   pub p12 : (number Set full b .answer ≡ plain Done 0) × (start (number Set full b) ≡ 1) × (order (number Set full b) ≡ b ∷ d ∷ c ∷ a ∷ [])
   -- request 3: "The sweep takes a and b, round 1 takes c, it is stored at 0, removed 3, and forced is not set"; where a live one goes, as in P5, it is
   pub request3 : (text Set stale3 e 70 .answer ≡ record { rounds = 1; removed = 3; forced = false; stale = false; outcome = Done }) × (start (text Set stale3 e 70) ≡ 0) × (order (text Set stale3 e 70) ≡ e ∷ d ∷ []) × (number Set full e .answer .forced ≡ true)
+  -- request 2: "Make fresh now zeroes the whole pool"; the sweep of P4 and the removal of P11, which answer 8 and 12, wipe too; the overwrite of P12 "wipes nothing"
+  pub request2 : (fresh .pool ≡ replicate 128 0) × (getCall (stored .dir) (stored .pool) 1500 AB12 .pool ≡ replicate 128 0) × (text SafeSet full a 40 .pool ≡ put cells 0 (replicate 32 0)) × (number Set full b .pool ≡ put cells 33 (numberBytes (pos 9000)))
 
 -- the replay example of 01: its two stores' and gets' answers, line by line
 pub record Example : Type 0 where
@@ -137,11 +139,11 @@ pub record Example : Type 0 where
   pub line5 : getCall (fresh .dir) (stored .pool) 1500 [] .answer ≡ plain KeyEmpty 0
 
 pub example : Example
-unfolding encode flat decode entriesOf without toFront put keyOf numberBytes numberAt memoryOf remove removeOldest moveToFront dead expiryOf tooLate timeLeft same keyIs foundFrom lookUp deads after gone sweepCount sweep holds held freeRun fitFrom firstFree run every any rightLengths valueFits entrySound noneShared sound _then_ refuse checkLengths checkSound checkClock checkKey checkKind takesNil checkNil checkLifetime clockChecks keyChecks storeChecks call ask freshWork freshCall afterSweep shown getFound getWork getCall deleteFound entryFor placeAt rewriteAt overwriteAt searched isPlaced ifRoom evicted anyLive forcedBy fitOutcome placeFit placedBy placeAnew storeOver storeItem mostRounds admits booleanByte valueGiven storeAdmitted storeFound storeWork itemOf storeCall ttlFound ttlCall
+unfolding encode flat decode entriesOf without toFront put keyOf numberBytes numberAt memoryOf wiped remove removeOldest moveToFront dead expiryOf tooLate timeLeft same keyIs foundFrom lookUp deads after gone sweepCount sweep holds held freeRun fitFrom firstFree run every any rightLengths valueFits entrySound noneShared sound _then_ refuse checkLengths checkSound checkClock checkKey checkKind takesNil checkNil checkLifetime clockChecks keyChecks storeChecks call ask freshWork freshCall afterSweep shown getFound getWork getCall deleteFound entryFor placeAt rewriteAt overwriteAt searched isPlaced ifRoom evicted anyLive forcedBy fitOutcome placeFit placedBy placeAnew storeOver storeItem mostRounds admits booleanByte valueGiven storeAdmitted storeFound storeWork itemOf storeCall ttlFound ttlCall
 example = record { line1 = refl; line2 = refl; line3 = refl; line4 = refl; line5 = refl }
 
 pub plates : Plates
-unfolding encode flat decode entriesOf without toFront put keyOf numberBytes numberAt memoryOf remove removeOldest moveToFront dead expiryOf tooLate timeLeft same keyIs foundFrom lookUp deads after gone sweepCount sweep holds held freeRun fitFrom firstFree run every any rightLengths valueFits entrySound noneShared sound _then_ refuse checkLengths checkSound checkClock checkKey checkKind takesNil checkNil checkLifetime clockChecks keyChecks storeChecks call ask freshWork freshCall afterSweep shown getFound getWork getCall deleteFound entryFor placeAt rewriteAt overwriteAt searched isPlaced ifRoom evicted anyLive forcedBy fitOutcome placeFit placedBy placeAnew storeOver storeItem mostRounds admits booleanByte valueGiven storeAdmitted storeFound storeWork itemOf storeCall ttlFound ttlCall
+unfolding encode flat decode entriesOf without toFront put keyOf numberBytes numberAt memoryOf wiped remove removeOldest moveToFront dead expiryOf tooLate timeLeft same keyIs foundFrom lookUp deads after gone sweepCount sweep holds held freeRun fitFrom firstFree run every any rightLengths valueFits entrySound noneShared sound _then_ refuse checkLengths checkSound checkClock checkKey checkKind takesNil checkNil checkLifetime clockChecks keyChecks storeChecks call ask freshWork freshCall afterSweep shown getFound getWork getCall deleteFound entryFor placeAt rewriteAt overwriteAt searched isPlaced ifRoom evicted anyLive forcedBy fitOutcome placeFit placedBy placeAnew storeOver storeItem mostRounds admits booleanByte valueGiven storeAdmitted storeFound storeWork itemOf storeCall ttlFound ttlCall
 plates =
     record {
       p1 = refl;
@@ -157,4 +159,5 @@ plates =
       p11 = (refl, refl);
       p12 = (refl, refl, refl);
       request3 = (refl, refl, refl, refl);
+      request2 = (refl, refl, refl, refl);
     }

@@ -5,7 +5,7 @@ use mathlib.Core.Logic.{_⊎_, inl, inr}
 use mathlib.Core.List.{List, [], _++_}
 use Prim.Native.Nat.{ℕ, _+_, _*_, _≤_, _<_}
 use native.Mathlib.Omega.{arith}
-use lib.ListN.{length, take, drop, take-append-drop, length-append}
+use lib.ListN.{length, take, drop, replicate, take-append-drop, length-append, length-replicate}
 use lib.Seq.{length-take-le, take-at}
 use lib.IntN.{ℤ}
 use mir.Syntax.{w64}
@@ -136,7 +136,7 @@ fresh-carries P dir pool low high hd hp =
     let cells : cellsOf pool ≡ P = omega (arith, hp) in
     rw
     (eq-eqb (length pool) (32 * cellsOf pool) (omega (arith, cells, hp)), le-leb 1 (cellsOf pool) (omega (arith, cells)), le-leb (cellsOf pool) 1024 (omega (arith, cells)), eq-eqb (length dir) (2 + 6 * cellsOf pool) (omega (arith, cells, hd)))
-    (carries-encode P (length dir) (record { entries = []; pool = pool }) hd (omega arith) (record { some-cell = low; few-cells = high; pool-size = hp; each = nil; apart = none-yet }))
+    (carries-encode P (length dir) (record { entries = []; pool = replicate (length pool) 0 }) hd (omega arith) (record { some-cell = low; few-cells = high; pool-size = length-replicate (length pool) 0 ∙ hp; each = nil; apart = none-yet }))
 
 -- past what is lent
 pub fresh-over : (P : ℕ) (s : Replay) {a : Answer} → (length (s .dir) < 2 + 6 * P) ⊎ (length (s .pool) < 32 * P) → a ≡ plain NotSound 0 → record { answer = a; after = s } ≡ freshened P s

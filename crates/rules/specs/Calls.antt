@@ -4,7 +4,7 @@ use mathlib.Core.Bool.{Bool, true, false, not, cond, _&&_}
 use mathlib.Core.List.{List, [], _∷_, _++_, map}
 use Prim.Native.Nat.{ℕ, zero, suc, _+_, _-_, _*_, _/_, _^_, min}
 use lib.Dec.{eqb, leb, ltb}
-use lib.ListN.{length, take, drop, getD}
+use lib.ListN.{length, take, drop, getD, replicate}
 use lib.IntN.{ℤ, pos, negsuc, _+ℤ_}
 use lib.Signed.{mag}
 use Rattle.rules.specs.declared.Entry.{Entry}
@@ -83,9 +83,9 @@ ask Passed work dir pool = work (memoryOf dir pool)
 
 -- ---- make fresh
 
--- "takes any contents of the right lengths, writes the empty directory and leaves the pool"
+-- "takes any contents of the right lengths, writes the empty directory", and by request 2 of document 02 "zeroes the whole pool"
 unfoldable pub freshWork : Memory → Work
-freshWork m = did Done 0 (record { entries = []; pool = m .pool })
+freshWork m = did Done 0 (record { entries = []; pool = replicate (length (m .pool)) 0 })
 
 unfoldable pub freshCall : List ℕ → List ℕ → Result
 freshCall dir pool = call (checkLengths dir pool) freshWork dir pool

@@ -11,3 +11,4 @@ pub mod LeastLoss
 pub mod Replay
 pub mod Forced
 pub mod Spared
+pub mod Clean

@@ -8,24 +8,24 @@ use native.Mathlib.Omega.{arith}
 use lib.ListN.{length, take, drop, getD, length-append, length-drop, drop-of-length-le, take-append-drop}
 use lib.Seq.{take-at, drop-at, drop-drop, getD-append-add, getD-drop, append-snoc, length-take-le}
 use Rattle.rules.specs.declared.Entry.{Entry}
-use Rattle.rules.specs.Layout.{encode, entriesOf, none, replaceAt, Dir, memoryOf}
+use Rattle.rules.specs.Layout.{encode, entriesOf, none, replaceAt, Dir}
 use Rattle.rules.specs.Time.{dead}
-use Rattle.rules.specs.Calls.{liveOf, Holds}
+use Rattle.rules.specs.Calls.{liveOf}
 use Rattle.laws.specs.LayoutLaws.{entries-encode, length-encode, dir-encode}
 use Rattle.laws.specs.Live.{live-dead, live-live}
-use Rattle.upkeep.specs.LiveFrom.{liveFrom}
+use Rattle.upkeep.specs.LiveFrom.{liveEntries}
 
--- how many entries are left, and the memory without the dead ones from `first` on
-pub record Dropped (clock first : ℕ) (dir pool : List ℕ) (left : ℕ) (dir' pool' : List ℕ) : Type 0 where
-  pub count : left ≡ length (liveFrom clock first (memoryOf dir pool) .entries)
+-- how many entries are left, and the directory without the dead ones from `first` on
+pub record Dropped (clock first : ℕ) (dir : List ℕ) (left : ℕ) (dir' : List ℕ) : Type 0 where
+  pub count : left ≡ length (liveEntries clock first (entriesOf dir))
   pub few : left ≤ length (entriesOf dir)
-  pub memory : Holds (length dir) (liveFrom clock first (memoryOf dir pool)) dir' pool'
+  pub words : dir' ≡ encode (length dir) (liveEntries clock first (entriesOf dir))
 
 -- the first i entries are passed: the records before `to` are those of the ones kept, and from there on they are as they were
 pub record Moved (clock first : ℕ) (d₀ : List ℕ) (to i : ℕ) (d : List ℕ) : Type 0 where
   pub kept : List Entry
   pub count : length kept ≡ to
-  pub whole : take first (entriesOf d₀) ++ liveOf clock (drop first (entriesOf d₀)) ≡ kept ++ liveOf clock (drop i (entriesOf d₀))
+  pub whole : liveEntries clock first (entriesOf d₀) ≡ kept ++ liveOf clock (drop i (entriesOf d₀))
   pub order : to ≤ i
   pub some : i ≤ length (entriesOf d₀)
   pub is : entriesOf d ≡ kept ++ drop to (entriesOf d₀)
@@ -118,17 +118,13 @@ module _ {clock first to i : ℕ} {d₀ d : List ℕ} (w : Moved clock first d�
         }
 
   -- all are passed, and the records behind those kept are cleared
-  pub moved-all : (pool : List ℕ) {d' : List ℕ} → length es ≤ i → d' ≡ encode (length d) (take to (entriesOf d)) → Dropped clock first d₀ pool to d' pool
-  unfolding liveFrom memoryOf liveOf
-  moved-all pool {d'} h c =
+  pub moved-all : {d' : List ℕ} → length es ≤ i → d' ≡ encode (length d) (take to (entriesOf d)) → Dropped clock first d₀ to d'
+  unfolding liveOf
+  moved-all h c =
       let a : List Entry = w .kept in
-      let done : take first es ++ liveOf clock (drop first es) ≡ a = w .whole ∙ ap (λ (l : List Entry). a ++ liveOf clock l) (drop-of-length-le es {i = i} h) ∙ append-nil a in
+      let done : liveEntries clock first es ≡ a = w .whole ∙ ap (λ (l : List Entry). a ++ liveOf clock l) (drop-of-length-le es {i = i} h) ∙ append-nil a in
       record {
         count = sym (ap length done ∙ w .count);
         few = omega (arith, w .order, w .some);
-        memory =
-            record {
-              words = c ∙ ap (λ (k : ℕ). encode k (take to (entriesOf d))) (w .size) ∙ ap (encode (length d₀)) (ap (take to) (w .is) ∙ take-at a (drop to es) to (w .count) ∙ sym done);
-              bytes = refl;
-            };
+        words = c ∙ ap (λ (k : ℕ). encode k (take to (entriesOf d))) (w .size) ∙ ap (encode (length d₀)) (ap (take to) (w .is) ∙ take-at a (drop to es) to (w .count) ∙ sym done);
       }

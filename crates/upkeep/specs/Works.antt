@@ -42,8 +42,8 @@ expire-done expiry i dir pool {e = e} y z w p =
 
 -- ---- flush_expired
 
-pub flush-done : (maximum : ℕ) (dir pool : List ℕ) {clock n most first kept : ℕ} {dir' pool' : List ℕ} {a : Answer} → n ≡ length (entriesOf dir) → most ≡ upTo maximum n → GoFrom clock most (memoryOf dir pool) first → Dropped clock first dir pool kept dir' pool' → a ≡ plain Done (n - kept) → Does (flushExpiredWork clock maximum (memoryOf dir pool)) (length dir) a dir' pool'
-unfolding flushExpiredWork memoryOf
+pub flush-done : (maximum : ℕ) (dir pool : List ℕ) {clock n most first kept : ℕ} {dir' pool' : List ℕ} {a : Answer} → n ≡ length (entriesOf dir) → most ≡ upTo maximum n → GoFrom clock most (memoryOf dir pool) first pool' → Dropped clock first dir kept dir' → a ≡ plain Done (n - kept) → Does (flushExpiredWork clock maximum (memoryOf dir pool)) (length dir) a dir' pool'
+unfolding flushExpiredWork memoryOf liveFrom
 flush-done maximum dir pool {clock} {n} {first = first} {kept = kept} {dir'} {pool'} c k g d p =
     let m : Memory = memoryOf dir pool in
     let size : ℕ = length (entriesOf dir) in
@@ -52,5 +52,5 @@ flush-done maximum dir pool {clock} {n} {first = first} {kept = kept} {dir'} {po
     let q : n - kept ≡ size - length (after .entries) = omega (arith, c, d .count, ap (λ (x : Memory). length (x .entries)) e) in
     record {
       answer = p ∙ ap (λ (j : ℕ). plain Done j) q;
-      memory = subst (λ (x : Memory). Holds (length dir) x dir' pool') (sym e) (d .memory);
+      memory = subst (λ (x : Memory). Holds (length dir) x dir' pool') (sym e) (record { words = d .words; bytes = g .bytes });
     }

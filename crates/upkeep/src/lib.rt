@@ -3,7 +3,7 @@ ghost use mathlib.Core.Path.{_≡_};
 ghost use mathlib.Core.Bool.{true, false};
 ghost use Prim.Native.Nat.{_≤_, _<_};
 ghost use lib.ListN.{length};
-ghost use Rattle.rules.specs.Layout.{entriesOf, memoryOf, remove};
+ghost use Rattle.rules.specs.Layout.{entriesOf, Dir, memoryOf, remove};
 ghost use Rattle.rules.specs.declared.Outcome.the-variants.{Done};
 ghost use Rattle.rules.specs.Time.{expiryOf, tooLate};
 ghost use Rattle.rules.specs.LookUp.{lookUp};
@@ -119,10 +119,10 @@ pub fn flush_all(dir: &mut [u64], pool: &[u8]) -> Answer
     flush_all_in(dir, pool)
 }
 
-// The first of the dead entries that go, `most` at most: every dead one behind it goes too. The number of entries if none goes.
-fn first_to_go(dir: &[u64], pool: &[u8], clock: u64, most: usize) -> usize
+// Wipes the dead entries that go, `most` at most, longest unused first. Answers the first of them, behind which every dead one goes; the number of entries if none goes.
+fn wipe_dead(dir: &[u64], pool: &mut [u8], clock: u64, most: usize) -> usize
     requires { ⌜ sound (now dir) (now pool) ≡ true ⌝ }
-    ensures { λ r. ⌜ GoFrom clock most (memoryOf (now (dir .entry)) (now (pool .entry))) r ⌝ }
+    ensures { λ r. ⌜ GoFrom clock most (memoryOf (now (dir .entry)) (now (pool .entry))) r (now (pool .exit)) ⌝ }
 {
     let mut i = directory::count(dir);
     let mut first = i;
@@ -132,7 +132,9 @@ fn first_to_go(dir: &[u64], pool: &[u8], clock: u64, most: usize) -> usize
             return first;
         }
         i -= 1;
-        if time::is_dead(directory::record_at(dir, i), clock) {
+        let last = directory::record_at(dir, i);
+        if time::is_dead(last, clock) {
+            memory::wipe(pool, last);
             first = i;
             gone += 1;
         }
@@ -140,11 +142,11 @@ fn first_to_go(dir: &[u64], pool: &[u8], clock: u64, most: usize) -> usize
     first
 }
 
-// Every dead entry from `first` on leaves, and the live ones move down, each once. Answers how many entries are left.
-fn drop_dead(dir: &mut [u64], pool: &mut [u8], clock: u64, first: usize) -> usize
-    requires { ⌜ sound (now dir) (now pool) ≡ true ⌝ }
+// The records of the dead entries from `first` on leave, and those of the live ones move down, each once. Answers how many entries are left.
+fn drop_dead(dir: &mut [u64], clock: u64, first: usize) -> usize
+    requires { ⌜ Dir (now dir) ⌝ }
     requires { ⌜ first ≤ length (entriesOf (now dir)) ⌝ }
-    ensures { λ r. ⌜ Dropped clock first (now (dir .entry)) (now (pool .entry)) r (now (dir .exit)) (now (pool .exit)) ⌝ }
+    ensures { λ r. ⌜ Dropped clock first (now (dir .entry)) r (now (dir .exit)) ⌝ }
 {
     let n = directory::count(dir);
     let mut kept = first;
@@ -153,7 +155,7 @@ fn drop_dead(dir: &mut [u64], pool: &mut [u8], clock: u64, first: usize) -> usiz
         let e = directory::record_at(dir, i);
         i += 1;
         if time::is_dead(e, clock) {
-            continue; // e leaves: what becomes of its cells is decided here
+            continue; // e leaves
         }
         directory::replace_at(dir, kept, e);
         kept += 1;
@@ -162,15 +164,15 @@ fn drop_dead(dir: &mut [u64], pool: &mut [u8], clock: u64, first: usize) -> usiz
     kept
 }
 
-// flush_expired on a sound memory: one pass finds what goes, and one moves the others down.
+// flush_expired on a sound memory: one pass finds and wipes what goes, and one moves the others down.
 pub fn flush_expired_in(dir: &mut [u64], pool: &mut [u8], clock: u64, maximum: u64) -> Answer
     requires { ⌜ sound (now dir) (now pool) ≡ true ⌝ }
     ensures { λ r. ⌜ Does (flushExpiredWork clock maximum (memoryOf (now (dir .entry)) (now (pool .entry)))) (length (now (dir .entry))) r (now (dir .exit)) (now (pool .exit)) ⌝ }
 {
     let n = directory::count(dir);
     let most = values::up_to(maximum, n);
-    let first = first_to_go(dir, pool, clock, most);
-    let kept = drop_dead(dir, pool, clock, first);
+    let first = wipe_dead(dir, pool, clock, most);
+    let kept = drop_dead(dir, clock, first);
     Answer::plain(Outcome::Done, n - kept)
 }
 

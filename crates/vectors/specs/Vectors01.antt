@@ -20,22 +20,22 @@ unfolding entriesOf decode rightLengths refuse checkLengths freshWork freshCall 
 v001-make-fresh = refl
 
 -- make_fresh: 0, rounds 0, removed 0
-pub v002-make-fresh : freshCall (1 ∷ 2 ∷ 74 ∷ 1 ∷ 4294967295 ∷ 2 ∷ 3 ∷ 1 ∷ 76 ∷ 3 ∷ 5 ∷ 0 ∷ 40 ∷ 8 ∷ replicate 12 0) (replicate 40 107 ++ 157 ∷ 60 ∷ replicate 6 255 ++ replicate 16 7 ++ 97 ∷ 98 ∷ 99 ∷ 1 ∷ replicate 60 7) ≡ gave (plain Done 0) (1 ∷ replicate 25 0) (replicate 40 107 ++ 157 ∷ 60 ∷ replicate 6 255 ++ replicate 16 7 ++ 97 ∷ 98 ∷ 99 ∷ 1 ∷ replicate 60 7)
+pub v002-make-fresh : freshCall (1 ∷ 2 ∷ 74 ∷ 1 ∷ 4294967295 ∷ 2 ∷ 3 ∷ 1 ∷ 76 ∷ 3 ∷ 5 ∷ 0 ∷ 40 ∷ 8 ∷ replicate 12 0) (replicate 40 107 ++ 157 ∷ 60 ∷ replicate 6 255 ++ replicate 16 7 ++ 97 ∷ 98 ∷ 99 ∷ 1 ∷ replicate 60 7) ≡ gave (plain Done 0) (1 ∷ replicate 25 0) (replicate 128 0)
 unfolding entriesOf decode rightLengths refuse checkLengths freshWork freshCall memoryOf encode flat call
 v002-make-fresh = refl
 
 -- make_fresh: 0, rounds 0, removed 0
-pub v003-make-fresh : freshCall (1 ∷ 1 ∷ 163 ∷ 4 ∷ 0 ∷ 0 ∷ 1 ∷ 95 ∷ replicate 18 0) (98 ∷ replicate 95 120 ++ replicate 32 7) ≡ gave (plain Done 0) (1 ∷ replicate 25 0) (98 ∷ replicate 95 120 ++ replicate 32 7)
+pub v003-make-fresh : freshCall (1 ∷ 1 ∷ 163 ∷ 4 ∷ 0 ∷ 0 ∷ 1 ∷ 95 ∷ replicate 18 0) (98 ∷ replicate 95 120 ++ replicate 32 7) ≡ gave (plain Done 0) (1 ∷ replicate 25 0) (replicate 128 0)
 unfolding entriesOf decode rightLengths refuse checkLengths freshWork freshCall memoryOf encode flat call
 v003-make-fresh = refl
 
 -- make_fresh: 0, rounds 0, removed 0
-pub v004-make-fresh : freshCall (1 ∷ 1 ∷ 0 ∷ 4 ∷ 4294967295 ∷ 0 ∷ 2 ∷ 8 ∷ replicate 18 0) (97 ∷ 98 ∷ replicate 8 120 ++ replicate 118 7) ≡ gave (plain Done 0) (1 ∷ replicate 25 0) (97 ∷ 98 ∷ replicate 8 120 ++ replicate 118 7)
+pub v004-make-fresh : freshCall (1 ∷ 1 ∷ 0 ∷ 4 ∷ 4294967295 ∷ 0 ∷ 2 ∷ 8 ∷ replicate 18 0) (97 ∷ 98 ∷ replicate 8 120 ++ replicate 22 0 ++ replicate 96 7) ≡ gave (plain Done 0) (1 ∷ replicate 25 0) (replicate 128 0)
 unfolding entriesOf decode rightLengths refuse checkLengths freshWork freshCall memoryOf encode flat call
 v004-make-fresh = refl
 
 -- make_fresh: 0, rounds 0, removed 0
-pub v005-make-fresh : freshCall (1 ∷ 2 ∷ 0 ∷ 3 ∷ 4294967295 ∷ 1 ∷ 1 ∷ 8 ∷ 119 ∷ 1 ∷ 5 ∷ 0 ∷ 2 ∷ 1 ∷ replicate 12 0) (97 ∷ 98 ∷ 1 ∷ replicate 29 0 ++ 100 ∷ 150 ∷ 62 ∷ replicate 93 0) ≡ gave (plain Done 0) (1 ∷ replicate 25 0) (97 ∷ 98 ∷ 1 ∷ replicate 29 0 ++ 100 ∷ 150 ∷ 62 ∷ replicate 93 0)
+pub v005-make-fresh : freshCall (1 ∷ 2 ∷ 0 ∷ 3 ∷ 4294967295 ∷ 1 ∷ 1 ∷ 8 ∷ 119 ∷ 1 ∷ 5 ∷ 0 ∷ 2 ∷ 1 ∷ replicate 12 0) (97 ∷ 98 ∷ 1 ∷ replicate 29 0 ++ 100 ∷ 150 ∷ 62 ∷ replicate 93 0) ≡ gave (plain Done 0) (1 ∷ replicate 25 0) (replicate 128 0)
 unfolding entriesOf decode rightLengths refuse checkLengths freshWork freshCall memoryOf encode flat call
 v005-make-fresh = refl
 
@@ -45,27 +45,27 @@ unfolding entriesOf decode rightLengths refuse checkLengths freshWork freshCall 
 v006-make-fresh = refl
 
 -- make_fresh: 0, rounds 0, removed 0
-pub v007-make-fresh : freshCall (1 ∷ 2 ∷ 1 ∷ 3 ∷ 4294967295 ∷ 0 ∷ 1 ∷ 8 ∷ 0 ∷ 1 ∷ 0 ∷ 3 ∷ 2 ∷ 1 ∷ replicate 12 0) (99 ∷ 148 ∷ 146 ∷ 254 ∷ replicate 5 255 ++ replicate 23 7 ++ 100 ∷ replicate 31 7 ++ 98 ∷ 85 ∷ 42 ∷ replicate 6 0 ++ replicate 23 7 ++ 97 ∷ 98 ∷ 1 ∷ replicate 29 7) ≡ gave (plain Done 0) (1 ∷ replicate 25 0) (99 ∷ 148 ∷ 146 ∷ 254 ∷ replicate 5 255 ++ replicate 23 7 ++ 100 ∷ replicate 31 7 ++ 98 ∷ 85 ∷ 42 ∷ replicate 6 0 ++ replicate 23 7 ++ 97 ∷ 98 ∷ 1 ∷ replicate 29 7)
+pub v007-make-fresh : freshCall (1 ∷ 2 ∷ 1 ∷ 3 ∷ 4294967295 ∷ 0 ∷ 1 ∷ 8 ∷ 0 ∷ 1 ∷ 0 ∷ 3 ∷ 2 ∷ 1 ∷ replicate 12 0) (99 ∷ 148 ∷ 146 ∷ 254 ∷ replicate 5 255 ++ replicate 87 0 ++ 97 ∷ 98 ∷ 1 ∷ replicate 29 7) ≡ gave (plain Done 0) (1 ∷ replicate 25 0) (replicate 128 0)
 unfolding entriesOf decode rightLengths refuse checkLengths freshWork freshCall memoryOf encode flat call
 v007-make-fresh = refl
 
 -- make_fresh: 0, rounds 0, removed 0
-pub v008-make-fresh : freshCall (1 ∷ 2 ∷ 0 ∷ 3 ∷ 4294967295 ∷ 1 ∷ 1 ∷ 8 ∷ 1 ∷ 4 ∷ 4294967295 ∷ 0 ∷ 1 ∷ 8 ∷ replicate 12 0) (100 ∷ replicate 31 120 ++ 97 ∷ 254 ∷ replicate 6 255 ++ 127 ∷ replicate 25 120 ++ replicate 62 7) ≡ gave (plain Done 0) (1 ∷ replicate 25 0) (100 ∷ replicate 31 120 ++ 97 ∷ 254 ∷ replicate 6 255 ++ 127 ∷ replicate 25 120 ++ replicate 62 7)
+pub v008-make-fresh : freshCall (1 ∷ 2 ∷ 0 ∷ 3 ∷ 4294967295 ∷ 1 ∷ 1 ∷ 8 ∷ 1 ∷ 4 ∷ 4294967295 ∷ 0 ∷ 1 ∷ 8 ∷ replicate 12 0) (100 ∷ replicate 8 120 ++ replicate 23 0 ++ 97 ∷ 254 ∷ replicate 6 255 ++ 127 ∷ replicate 55 0 ++ replicate 32 7) ≡ gave (plain Done 0) (1 ∷ replicate 25 0) (replicate 128 0)
 unfolding entriesOf decode rightLengths refuse checkLengths freshWork freshCall memoryOf encode flat call
 v008-make-fresh = refl
 
 -- make_fresh: 0, rounds 0, removed 0
-pub v009-make-fresh : freshCall (1 ∷ 2 ∷ 1 ∷ 3 ∷ 4294967295 ∷ 1 ∷ 3 ∷ 8 ∷ 75 ∷ 4 ∷ 0 ∷ 0 ∷ 1 ∷ 8 ∷ replicate 12 0) (99 ∷ replicate 8 120 ++ replicate 23 0 ++ 97 ∷ 98 ∷ 99 ∷ 207 ∷ 251 ∷ replicate 91 0) ≡ gave (plain Done 0) (1 ∷ replicate 25 0) (99 ∷ replicate 8 120 ++ replicate 23 0 ++ 97 ∷ 98 ∷ 99 ∷ 207 ∷ 251 ∷ replicate 91 0)
+pub v009-make-fresh : freshCall (1 ∷ 2 ∷ 1 ∷ 3 ∷ 4294967295 ∷ 1 ∷ 3 ∷ 8 ∷ 75 ∷ 4 ∷ 0 ∷ 0 ∷ 1 ∷ 8 ∷ replicate 12 0) (99 ∷ replicate 8 120 ++ replicate 23 0 ++ 97 ∷ 98 ∷ 99 ∷ 207 ∷ 251 ∷ replicate 91 0) ≡ gave (plain Done 0) (1 ∷ replicate 25 0) (replicate 128 0)
 unfolding entriesOf decode rightLengths refuse checkLengths freshWork freshCall memoryOf encode flat call
 v009-make-fresh = refl
 
 -- make_fresh: 1, rounds 0, removed 0
-pub v010-make-fresh : freshCall (1 ∷ 1 ∷ 0 ∷ 3 ∷ 0 ∷ 0 ∷ 3 ∷ 8 ∷ replicate 18 0) (97 ∷ 98 ∷ 99 ∷ 202 ∷ 7 ∷ replicate 6 0 ++ replicate 117 7 ++ 0 ∷ []) ≡ gave (plain NotSound 0) (1 ∷ 1 ∷ 0 ∷ 3 ∷ 0 ∷ 0 ∷ 3 ∷ 8 ∷ replicate 18 0) (97 ∷ 98 ∷ 99 ∷ 202 ∷ 7 ∷ replicate 6 0 ++ replicate 117 7 ++ 0 ∷ [])
+pub v010-make-fresh : freshCall (1 ∷ 1 ∷ 0 ∷ 3 ∷ 0 ∷ 0 ∷ 3 ∷ 8 ∷ replicate 18 0) (97 ∷ 98 ∷ 99 ∷ 202 ∷ 7 ∷ replicate 27 0 ++ replicate 96 7 ++ 0 ∷ []) ≡ gave (plain NotSound 0) (1 ∷ 1 ∷ 0 ∷ 3 ∷ 0 ∷ 0 ∷ 3 ∷ 8 ∷ replicate 18 0) (97 ∷ 98 ∷ 99 ∷ 202 ∷ 7 ∷ replicate 27 0 ++ replicate 96 7 ++ 0 ∷ [])
 unfolding entriesOf decode rightLengths refuse checkLengths freshWork freshCall memoryOf encode flat call
 v010-make-fresh = refl
 
 -- make_fresh: 0, rounds 0, removed 0
-pub v011-make-fresh : freshCall (1 ∷ 3 ∷ 0 ∷ 3 ∷ 5 ∷ 2 ∷ 1 ∷ 8 ∷ 93 ∷ 3 ∷ 5 ∷ 0 ∷ 2 ∷ 8 ∷ 0 ∷ 1 ∷ 5 ∷ 1 ∷ 1 ∷ 1 ∷ replicate 6 0) (97 ∷ 98 ∷ 164 ∷ 144 ∷ 215 ∷ 52 ∷ 77 ∷ 199 ∷ 38 ∷ 246 ∷ replicate 22 0 ++ 98 ∷ 1 ∷ 143 ∷ 254 ∷ replicate 5 255 ++ replicate 23 0 ++ 99 ∷ 15 ∷ 24 ∷ replicate 61 0) ≡ gave (plain Done 0) (1 ∷ replicate 25 0) (97 ∷ 98 ∷ 164 ∷ 144 ∷ 215 ∷ 52 ∷ 77 ∷ 199 ∷ 38 ∷ 246 ∷ replicate 22 0 ++ 98 ∷ 1 ∷ 143 ∷ 254 ∷ replicate 5 255 ++ replicate 23 0 ++ 99 ∷ 15 ∷ 24 ∷ replicate 61 0)
+pub v011-make-fresh : freshCall (1 ∷ 3 ∷ 0 ∷ 3 ∷ 5 ∷ 2 ∷ 1 ∷ 8 ∷ 93 ∷ 3 ∷ 5 ∷ 0 ∷ 2 ∷ 8 ∷ 0 ∷ 1 ∷ 5 ∷ 1 ∷ 1 ∷ 1 ∷ replicate 6 0) (97 ∷ 98 ∷ 164 ∷ 144 ∷ 215 ∷ 52 ∷ 77 ∷ 199 ∷ 38 ∷ 246 ∷ replicate 22 0 ++ 98 ∷ 1 ∷ replicate 30 0 ++ 99 ∷ 15 ∷ 24 ∷ replicate 61 0) ≡ gave (plain Done 0) (1 ∷ replicate 25 0) (replicate 128 0)
 unfolding entriesOf decode rightLengths refuse checkLengths freshWork freshCall memoryOf encode flat call
 v011-make-fresh = refl
 
@@ -90,12 +90,12 @@ unfolding entriesOf decode holds held freeRun every any rightLengths valueFits e
 v015-audit = refl
 
 -- audit: no
-pub v016-audit : audit (1 ∷ 2 ∷ 143 ∷ 4 ∷ 0 ∷ 1 ∷ 3 ∷ 0 ∷ 0 ∷ 1 ∷ 5 ∷ 0 ∷ 2 ∷ 1 ∷ replicate 12 0) (98 ∷ 97 ∷ 1 ∷ 90 ∷ replicate 6 0 ++ replicate 22 7 ++ 97 ∷ 98 ∷ 99 ∷ replicate 93 7 ++ 0 ∷ []) ≡ false
+pub v016-audit : audit (1 ∷ 2 ∷ 143 ∷ 4 ∷ 0 ∷ 1 ∷ 3 ∷ 0 ∷ 0 ∷ 1 ∷ 5 ∷ 0 ∷ 2 ∷ 1 ∷ replicate 12 0) (98 ∷ 97 ∷ 1 ∷ replicate 29 0 ++ 97 ∷ 98 ∷ 99 ∷ replicate 93 7 ++ 0 ∷ []) ≡ false
 unfolding entriesOf decode holds held freeRun every any rightLengths valueFits entrySound noneShared sound refuse checkSound same keyOf keyIs keysDiffer audit
 v016-audit = refl
 
 -- audit: no
-pub v017-audit : audit (1 ∷ 1 ∷ 0 ∷ 3 ∷ 4294967295 ∷ 0 ∷ 1 ∷ 8 ∷ 0 ∷ []) (99 ∷ 166 ∷ 83 ∷ 1 ∷ replicate 5 0 ++ 127 ∷ replicate 22 0) ≡ false
+pub v017-audit : audit (1 ∷ 1 ∷ 0 ∷ 3 ∷ 4294967295 ∷ 0 ∷ 1 ∷ 8 ∷ 0 ∷ []) (99 ∷ 166 ∷ 83 ∷ 1 ∷ replicate 28 0) ≡ false
 unfolding entriesOf decode holds held freeRun every any rightLengths valueFits entrySound noneShared sound refuse checkSound same keyOf keyIs keysDiffer audit
 v017-audit = refl
 
@@ -110,22 +110,22 @@ unfolding entriesOf decode holds held freeRun every any rightLengths valueFits e
 v019-audit = refl
 
 -- audit: yes
-pub v020-audit : audit (1 ∷ 2 ∷ 127 ∷ 3 ∷ 4294967295 ∷ 0 ∷ 1 ∷ 8 ∷ 1 ∷ 4 ∷ 4294967295 ∷ 1 ∷ 1 ∷ 20 ∷ []) (98 ∷ 7 ∷ 105 ∷ 1 ∷ replicate 5 0 ++ replicate 23 120 ++ 97 ∷ replicate 20 120 ++ replicate 11 0) ≡ true
+pub v020-audit : audit (1 ∷ 2 ∷ 127 ∷ 3 ∷ 4294967295 ∷ 0 ∷ 1 ∷ 8 ∷ 1 ∷ 4 ∷ 4294967295 ∷ 1 ∷ 1 ∷ 20 ∷ []) (98 ∷ 7 ∷ 105 ∷ 1 ∷ replicate 28 0 ++ 97 ∷ replicate 20 120 ++ replicate 11 0) ≡ true
 unfolding entriesOf decode holds held freeRun every any rightLengths valueFits entrySound noneShared sound refuse checkSound same keyOf keyIs keysDiffer audit
 v020-audit = refl
 
 -- audit: yes
-pub v021-audit : audit (1 ∷ 2 ∷ 1 ∷ 3 ∷ 4294967295 ∷ 0 ∷ 1 ∷ 8 ∷ 0 ∷ 1 ∷ 4294967295 ∷ 1 ∷ 2 ∷ 1 ∷ replicate 12 0) (97 ∷ 160 ∷ 3 ∷ 1 ∷ replicate 5 0 ++ 255 ∷ 255 ∷ replicate 21 7 ++ 98 ∷ 97 ∷ 1 ∷ replicate 93 7) ≡ true
+pub v021-audit : audit (1 ∷ 2 ∷ 1 ∷ 3 ∷ 4294967295 ∷ 0 ∷ 1 ∷ 8 ∷ 0 ∷ 1 ∷ 4294967295 ∷ 1 ∷ 2 ∷ 1 ∷ replicate 12 0) (97 ∷ 160 ∷ 3 ∷ 1 ∷ replicate 28 0 ++ 98 ∷ 97 ∷ 1 ∷ replicate 93 7) ≡ true
 unfolding entriesOf decode holds held freeRun every any rightLengths valueFits entrySound noneShared sound refuse checkSound same keyOf keyIs keysDiffer audit
 v021-audit = refl
 
 -- audit: yes
-pub v022-audit : audit (1 ∷ 2 ∷ 1 ∷ 3 ∷ 4294967295 ∷ 1 ∷ 1 ∷ 8 ∷ 1 ∷ 3 ∷ 5 ∷ 0 ∷ 1 ∷ 8 ∷ []) (100 ∷ 254 ∷ replicate 6 255 ++ 127 ∷ replicate 23 120 ++ 98 ∷ 196 ∷ 217 ∷ replicate 6 255 ++ replicate 23 0) ≡ true
+pub v022-audit : audit (1 ∷ 2 ∷ 1 ∷ 3 ∷ 4294967295 ∷ 1 ∷ 1 ∷ 8 ∷ 1 ∷ 3 ∷ 5 ∷ 0 ∷ 1 ∷ 8 ∷ []) (100 ∷ 254 ∷ replicate 6 255 ++ 127 ∷ replicate 23 0 ++ 98 ∷ 196 ∷ 217 ∷ replicate 6 255 ++ replicate 23 0) ≡ true
 unfolding entriesOf decode holds held freeRun every any rightLengths valueFits entrySound noneShared sound refuse checkSound same keyOf keyIs keysDiffer audit
 v022-audit = refl
 
 -- audit: yes
-pub v023-audit : audit (1 ∷ 3 ∷ 143 ∷ 4 ∷ 0 ∷ 2 ∷ 2 ∷ 8 ∷ 0 ∷ 3 ∷ 0 ∷ 1 ∷ 1 ∷ 8 ∷ 113 ∷ 3 ∷ 5 ∷ 0 ∷ 1 ∷ 8 ∷ replicate 6 0) (98 ∷ 1 ∷ replicate 6 0 ++ 128 ∷ replicate 12 120 ++ replicate 11 0 ++ 100 ∷ 254 ∷ replicate 6 255 ++ 127 ∷ replicate 23 0 ++ 98 ∷ 97 ∷ replicate 8 120 ++ replicate 54 0) ≡ true
+pub v023-audit : audit (1 ∷ 3 ∷ 143 ∷ 4 ∷ 0 ∷ 2 ∷ 2 ∷ 8 ∷ 0 ∷ 3 ∷ 0 ∷ 1 ∷ 1 ∷ 8 ∷ 113 ∷ 3 ∷ 5 ∷ 0 ∷ 1 ∷ 8 ∷ replicate 6 0) (98 ∷ 1 ∷ replicate 6 0 ++ 128 ∷ replicate 23 0 ++ 100 ∷ 254 ∷ replicate 6 255 ++ 127 ∷ replicate 23 0 ++ 98 ∷ 97 ∷ replicate 8 120 ++ replicate 54 0) ≡ true
 unfolding entriesOf decode holds held freeRun every any rightLengths valueFits entrySound noneShared sound refuse checkSound same keyOf keyIs keysDiffer audit
 v023-audit = refl
 
@@ -140,7 +140,7 @@ unfolding entriesOf decode holds held freeRun every any rightLengths valueFits e
 v025-audit = refl
 
 -- audit: no
-pub v026-audit : audit (1 ∷ 4 ∷ 102 ∷ 4 ∷ 4294967295 ∷ 3 ∷ 1 ∷ 0 ∷ 0 ∷ 3 ∷ 0 ∷ 2 ∷ 1 ∷ 8 ∷ 157 ∷ 3 ∷ 4294967295 ∷ 1 ∷ 2 ∷ 8 ∷ 0 ∷ 1 ∷ 4294967295 ∷ 0 ∷ 1 ∷ 1 ∷ []) (100 ∷ 1 ∷ 217 ∷ replicate 6 255 ++ replicate 23 0 ++ 97 ∷ 98 ∷ 128 ∷ 90 ∷ replicate 6 255 ++ replicate 22 0 ++ 97 ∷ 68 ∷ 128 ∷ 205 ∷ 200 ∷ 241 ∷ 153 ∷ 95 ∷ 253 ∷ replicate 23 0 ++ 100 ∷ replicate 31 0) ≡ false
+pub v026-audit : audit (1 ∷ 4 ∷ 102 ∷ 4 ∷ 4294967295 ∷ 3 ∷ 1 ∷ 0 ∷ 0 ∷ 3 ∷ 0 ∷ 2 ∷ 1 ∷ 8 ∷ 157 ∷ 3 ∷ 4294967295 ∷ 1 ∷ 2 ∷ 8 ∷ 0 ∷ 1 ∷ 4294967295 ∷ 0 ∷ 1 ∷ 1 ∷ []) (100 ∷ 1 ∷ replicate 30 0 ++ 97 ∷ 98 ∷ 128 ∷ 90 ∷ replicate 6 255 ++ replicate 22 0 ++ 97 ∷ 68 ∷ 128 ∷ 205 ∷ 200 ∷ 241 ∷ 153 ∷ 95 ∷ 253 ∷ replicate 23 0 ++ 100 ∷ replicate 31 0) ≡ false
 unfolding entriesOf decode holds held freeRun every any rightLengths valueFits entrySound noneShared sound refuse checkSound same keyOf keyIs keysDiffer audit
 v026-audit = refl
 
@@ -155,7 +155,7 @@ unfolding entriesOf decode holds held freeRun every any rightLengths valueFits e
 v028-audit = refl
 
 -- audit: no
-pub v029-audit : audit (1 ∷ 2 ∷ 99 ∷ 1 ∷ 4294967295 ∷ 2 ∷ 1 ∷ 1 ∷ 1 ∷ 4 ∷ 5 ∷ 0 ∷ 1 ∷ 60 ∷ replicate 12 0) (100 ∷ replicate 60 120 ++ 7 ∷ 7 ∷ 7 ∷ 100 ∷ 1 ∷ replicate 62 7) ≡ false
+pub v029-audit : audit (1 ∷ 2 ∷ 99 ∷ 1 ∷ 4294967295 ∷ 2 ∷ 1 ∷ 1 ∷ 1 ∷ 4 ∷ 5 ∷ 0 ∷ 1 ∷ 60 ∷ replicate 12 0) (100 ∷ replicate 60 120 ++ 0 ∷ 0 ∷ 0 ∷ 100 ∷ 1 ∷ replicate 62 7) ≡ false
 unfolding entriesOf decode holds held freeRun every any rightLengths valueFits entrySound noneShared sound refuse checkSound same keyOf keyIs keysDiffer audit
 v029-audit = refl
 

@@ -6,7 +6,7 @@ use mathlib.Core.List.{[], _∷_, _++_}
 use lib.ListN.{replicate}
 use lib.IntN.{pos, negsuc}
 use Rattle.rules.specs.declared.Outcome.the-variants.{Done, Number, Boolean, Text, Count, NotSound, ClockZero, KeyEmpty, KeyTooLong, NotFound}
-use Rattle.rules.specs.Layout.{encode, decode, flat, entriesOf, without, memoryOf, remove}
+use Rattle.rules.specs.Layout.{encode, decode, flat, entriesOf, without, put, memoryOf, wiped, remove}
 use Rattle.rules.specs.Time.{dead, withExpiry}
 use Rattle.rules.specs.Place.{holds, held, freeRun}
 use Rattle.rules.specs.Soundness.{every, any, rightLengths, valueFits, entrySound, noneShared, sound}
@@ -30,7 +30,7 @@ unfolding entriesOf decode holds held freeRun every any rightLengths valueFits e
 v410-flush-all = refl
 
 -- flush_all: 0, rounds 0, removed 0
-pub v411-flush-all : flushAllCall (1 ∷ 3 ∷ 137 ∷ 1 ∷ 4294967295 ∷ 2 ∷ 1 ∷ 1 ∷ 131 ∷ 3 ∷ 5 ∷ 1 ∷ 1 ∷ 8 ∷ 0 ∷ 3 ∷ 4294967295 ∷ 0 ∷ 1 ∷ 8 ∷ replicate 6 0) (100 ∷ 8 ∷ 153 ∷ replicate 6 0 ++ replicate 23 120 ++ 99 ∷ 1 ∷ 214 ∷ 221 ∷ 137 ∷ 205 ∷ 196 ∷ 230 ∷ 156 ∷ replicate 23 120 ++ 97 ∷ 1 ∷ replicate 30 120 ++ replicate 32 7) ≡ gave (plain Done 0) (1 ∷ 3 ∷ 1 ∷ 1 ∷ 4294967295 ∷ 2 ∷ 1 ∷ 1 ∷ 1 ∷ 3 ∷ 5 ∷ 1 ∷ 1 ∷ 8 ∷ 1 ∷ 3 ∷ 4294967295 ∷ 0 ∷ 1 ∷ 8 ∷ replicate 6 0) (100 ∷ 8 ∷ 153 ∷ replicate 6 0 ++ replicate 23 120 ++ 99 ∷ 1 ∷ 214 ∷ 221 ∷ 137 ∷ 205 ∷ 196 ∷ 230 ∷ 156 ∷ replicate 23 120 ++ 97 ∷ 1 ∷ replicate 30 120 ++ replicate 32 7)
+pub v411-flush-all : flushAllCall (1 ∷ 3 ∷ 137 ∷ 1 ∷ 4294967295 ∷ 2 ∷ 1 ∷ 1 ∷ 131 ∷ 3 ∷ 5 ∷ 1 ∷ 1 ∷ 8 ∷ 0 ∷ 3 ∷ 4294967295 ∷ 0 ∷ 1 ∷ 8 ∷ replicate 6 0) (100 ∷ 8 ∷ 153 ∷ replicate 29 0 ++ 99 ∷ 1 ∷ 214 ∷ 221 ∷ 137 ∷ 205 ∷ 196 ∷ 230 ∷ 156 ∷ replicate 23 0 ++ 97 ∷ 1 ∷ replicate 30 0 ++ replicate 32 7) ≡ gave (plain Done 0) (1 ∷ 3 ∷ 1 ∷ 1 ∷ 4294967295 ∷ 2 ∷ 1 ∷ 1 ∷ 1 ∷ 3 ∷ 5 ∷ 1 ∷ 1 ∷ 8 ∷ 1 ∷ 3 ∷ 4294967295 ∷ 0 ∷ 1 ∷ 8 ∷ replicate 6 0) (100 ∷ 8 ∷ 153 ∷ replicate 29 0 ++ 99 ∷ 1 ∷ 214 ∷ 221 ∷ 137 ∷ 205 ∷ 196 ∷ 230 ∷ 156 ∷ replicate 23 0 ++ 97 ∷ 1 ∷ replicate 30 0 ++ replicate 32 7)
 unfolding entriesOf decode holds held freeRun every any rightLengths valueFits entrySound noneShared sound refuse checkSound memoryOf encode flat call withExpiry flushAllWork flushAllCall
 v411-flush-all = refl
 
@@ -51,86 +51,86 @@ v414-flush-all = refl
 
 -- flush_expired: 0, rounds 0, removed 0
 pub v415-flush-expired : flushExpiredCall (1 ∷ 1 ∷ 92 ∷ 1 ∷ 0 ∷ 0 ∷ 2 ∷ 1 ∷ replicate 6 0) (97 ∷ 98 ∷ 1 ∷ replicate 61 7) 74 0 ≡ gave (plain Done 0) (1 ∷ 1 ∷ 92 ∷ 1 ∷ 0 ∷ 0 ∷ 2 ∷ 1 ∷ replicate 6 0) (97 ∷ 98 ∷ 1 ∷ replicate 61 7)
-unfolding entriesOf decode holds held freeRun every any rightLengths valueFits entrySound noneShared sound refuse checkSound _then_ checkClock clockChecks memoryOf encode flat call dead without remove flushed upTo flushExpiredWork flushExpiredCall
+unfolding entriesOf decode holds held freeRun every any rightLengths valueFits entrySound noneShared sound refuse checkSound _then_ checkClock clockChecks memoryOf encode flat call dead without put wiped remove flushed upTo flushExpiredWork flushExpiredCall
 v415-flush-expired = refl
 
 -- flush_expired: 0, rounds 0, removed 0
-pub v416-flush-expired : flushExpiredCall (1 ∷ 1 ∷ 0 ∷ 3 ∷ 5 ∷ 0 ∷ 1 ∷ 8 ∷ []) (98 ∷ 134 ∷ 41 ∷ replicate 6 255 ++ replicate 23 7) 74 0 ≡ gave (plain Done 0) (1 ∷ 1 ∷ 0 ∷ 3 ∷ 5 ∷ 0 ∷ 1 ∷ 8 ∷ []) (98 ∷ 134 ∷ 41 ∷ replicate 6 255 ++ replicate 23 7)
-unfolding entriesOf decode holds held freeRun every any rightLengths valueFits entrySound noneShared sound refuse checkSound _then_ checkClock clockChecks memoryOf encode flat call dead without remove flushed upTo flushExpiredWork flushExpiredCall
+pub v416-flush-expired : flushExpiredCall (1 ∷ 1 ∷ 0 ∷ 3 ∷ 5 ∷ 0 ∷ 1 ∷ 8 ∷ []) (98 ∷ 134 ∷ 41 ∷ replicate 6 255 ++ replicate 23 0) 74 0 ≡ gave (plain Done 0) (1 ∷ 1 ∷ 0 ∷ 3 ∷ 5 ∷ 0 ∷ 1 ∷ 8 ∷ []) (98 ∷ 134 ∷ 41 ∷ replicate 6 255 ++ replicate 23 0)
+unfolding entriesOf decode holds held freeRun every any rightLengths valueFits entrySound noneShared sound refuse checkSound _then_ checkClock clockChecks memoryOf encode flat call dead without put wiped remove flushed upTo flushExpiredWork flushExpiredCall
 v416-flush-expired = refl
 
 -- flush_expired: 0, rounds 0, removed 0
 pub v417-flush-expired : flushExpiredCall (1 ∷ 2 ∷ 0 ∷ 4 ∷ 0 ∷ 1 ∷ 1 ∷ 1 ∷ 125 ∷ 1 ∷ 0 ∷ 0 ∷ 1 ∷ 1 ∷ replicate 12 0) (97 ∷ 1 ∷ replicate 30 0 ++ 99 ∷ 120 ∷ replicate 94 0) 89 0 ≡ gave (plain Done 0) (1 ∷ 2 ∷ 0 ∷ 4 ∷ 0 ∷ 1 ∷ 1 ∷ 1 ∷ 125 ∷ 1 ∷ 0 ∷ 0 ∷ 1 ∷ 1 ∷ replicate 12 0) (97 ∷ 1 ∷ replicate 30 0 ++ 99 ∷ 120 ∷ replicate 94 0)
-unfolding entriesOf decode holds held freeRun every any rightLengths valueFits entrySound noneShared sound refuse checkSound _then_ checkClock clockChecks memoryOf encode flat call dead without remove flushed upTo flushExpiredWork flushExpiredCall
+unfolding entriesOf decode holds held freeRun every any rightLengths valueFits entrySound noneShared sound refuse checkSound _then_ checkClock clockChecks memoryOf encode flat call dead without put wiped remove flushed upTo flushExpiredWork flushExpiredCall
 v417-flush-expired = refl
 
 -- flush_expired: 1, rounds 0, removed 0
 pub v418-flush-expired : flushExpiredCall (1 ∷ 1 ∷ 11666661953314920724 ∷ 5500009884050499746 ∷ 7897103245426062645 ∷ 10219256726925072988 ∷ 8920677006066684245 ∷ 4599883113805049224 ∷ replicate 6 0) (97 ∷ 98 ∷ 186 ∷ 77 ∷ replicate 6 255 ++ replicate 54 0) 0 0 ≡ gave (plain NotSound 0) (1 ∷ 1 ∷ 11666661953314920724 ∷ 5500009884050499746 ∷ 7897103245426062645 ∷ 10219256726925072988 ∷ 8920677006066684245 ∷ 4599883113805049224 ∷ replicate 6 0) (97 ∷ 98 ∷ 186 ∷ 77 ∷ replicate 6 255 ++ replicate 54 0)
-unfolding entriesOf decode holds held freeRun every any rightLengths valueFits entrySound noneShared sound refuse checkSound _then_ checkClock clockChecks memoryOf encode flat call dead without remove flushed upTo flushExpiredWork flushExpiredCall
+unfolding entriesOf decode holds held freeRun every any rightLengths valueFits entrySound noneShared sound refuse checkSound _then_ checkClock clockChecks memoryOf encode flat call dead without put wiped remove flushed upTo flushExpiredWork flushExpiredCall
 v418-flush-expired = refl
 
 -- flush_expired: 0, rounds 0, removed 0
 pub v419-flush-expired : flushExpiredCall (1 ∷ replicate 7 0) (replicate 32 0) 126 0 ≡ gave (plain Done 0) (1 ∷ replicate 7 0) (replicate 32 0)
-unfolding entriesOf decode holds held freeRun every any rightLengths valueFits entrySound noneShared sound refuse checkSound _then_ checkClock clockChecks memoryOf encode flat call dead without remove flushed upTo flushExpiredWork flushExpiredCall
+unfolding entriesOf decode holds held freeRun every any rightLengths valueFits entrySound noneShared sound refuse checkSound _then_ checkClock clockChecks memoryOf encode flat call dead without put wiped remove flushed upTo flushExpiredWork flushExpiredCall
 v419-flush-expired = refl
 
 -- flush_expired: 2, rounds 0, removed 0
 pub v420-flush-expired : flushExpiredCall (1 ∷ replicate 25 0) (replicate 128 0) 0 0 ≡ gave (plain ClockZero 0) (1 ∷ replicate 25 0) (replicate 128 0)
-unfolding entriesOf decode holds held freeRun every any rightLengths valueFits entrySound noneShared sound refuse checkSound _then_ checkClock clockChecks memoryOf encode flat call dead without remove flushed upTo flushExpiredWork flushExpiredCall
+unfolding entriesOf decode holds held freeRun every any rightLengths valueFits entrySound noneShared sound refuse checkSound _then_ checkClock clockChecks memoryOf encode flat call dead without put wiped remove flushed upTo flushExpiredWork flushExpiredCall
 v420-flush-expired = refl
 
 -- flush_expired: 0, rounds 0, removed 1
-pub v421-flush-expired : flushExpiredCall (1 ∷ 2 ∷ 123 ∷ 4 ∷ 0 ∷ 1 ∷ 2 ∷ 60 ∷ 0 ∷ 3 ∷ 0 ∷ 0 ∷ 2 ∷ 8 ∷ replicate 12 0) (97 ∷ 98 ∷ 114 ∷ 141 ∷ replicate 6 0 ++ replicate 22 7 ++ 98 ∷ 97 ∷ replicate 60 120 ++ replicate 34 7) 167 0 ≡ gave (plain Done 1) (1 ∷ 1 ∷ 0 ∷ 3 ∷ 0 ∷ 0 ∷ 2 ∷ 8 ∷ replicate 18 0) (97 ∷ 98 ∷ 114 ∷ 141 ∷ replicate 6 0 ++ replicate 22 7 ++ 98 ∷ 97 ∷ replicate 60 120 ++ replicate 34 7)
-unfolding entriesOf decode holds held freeRun every any rightLengths valueFits entrySound noneShared sound refuse checkSound _then_ checkClock clockChecks memoryOf encode flat call dead without remove flushed upTo flushExpiredWork flushExpiredCall
+pub v421-flush-expired : flushExpiredCall (1 ∷ 2 ∷ 123 ∷ 4 ∷ 0 ∷ 1 ∷ 2 ∷ 60 ∷ 0 ∷ 3 ∷ 0 ∷ 0 ∷ 2 ∷ 8 ∷ replicate 12 0) (97 ∷ 98 ∷ 114 ∷ 141 ∷ replicate 6 0 ++ replicate 22 7 ++ 98 ∷ 97 ∷ replicate 60 120 ++ replicate 34 7) 167 0 ≡ gave (plain Done 1) (1 ∷ 1 ∷ 0 ∷ 3 ∷ 0 ∷ 0 ∷ 2 ∷ 8 ∷ replicate 18 0) (97 ∷ 98 ∷ 114 ∷ 141 ∷ replicate 6 0 ++ replicate 22 7 ++ replicate 64 0 ++ replicate 32 7)
+unfolding entriesOf decode holds held freeRun every any rightLengths valueFits entrySound noneShared sound refuse checkSound _then_ checkClock clockChecks memoryOf encode flat call dead without put wiped remove flushed upTo flushExpiredWork flushExpiredCall
 v421-flush-expired = refl
 
 -- flush_expired: 1, rounds 0, removed 0
-pub v422-flush-expired : flushExpiredCall (1 ∷ 1 ∷ 0 ∷ 1 ∷ 1581040006625319109 ∷ 0 ∷ 3 ∷ 1 ∷ replicate 6 0) (97 ∷ 98 ∷ 99 ∷ 1 ∷ replicate 6 255 ++ replicate 22 0 ++ 98 ∷ 1 ∷ replicate 30 0) 176 2 ≡ gave (plain NotSound 0) (1 ∷ 1 ∷ 0 ∷ 1 ∷ 1581040006625319109 ∷ 0 ∷ 3 ∷ 1 ∷ replicate 6 0) (97 ∷ 98 ∷ 99 ∷ 1 ∷ replicate 6 255 ++ replicate 22 0 ++ 98 ∷ 1 ∷ replicate 30 0)
-unfolding entriesOf decode holds held freeRun every any rightLengths valueFits entrySound noneShared sound refuse checkSound _then_ checkClock clockChecks memoryOf encode flat call dead without remove flushed upTo flushExpiredWork flushExpiredCall
+pub v422-flush-expired : flushExpiredCall (1 ∷ 1 ∷ 0 ∷ 1 ∷ 1581040006625319109 ∷ 0 ∷ 3 ∷ 1 ∷ replicate 6 0) (97 ∷ 98 ∷ 99 ∷ 1 ∷ replicate 60 0) 176 2 ≡ gave (plain NotSound 0) (1 ∷ 1 ∷ 0 ∷ 1 ∷ 1581040006625319109 ∷ 0 ∷ 3 ∷ 1 ∷ replicate 6 0) (97 ∷ 98 ∷ 99 ∷ 1 ∷ replicate 60 0)
+unfolding entriesOf decode holds held freeRun every any rightLengths valueFits entrySound noneShared sound refuse checkSound _then_ checkClock clockChecks memoryOf encode flat call dead without put wiped remove flushed upTo flushExpiredWork flushExpiredCall
 v422-flush-expired = refl
 
 -- flush_expired: 0, rounds 0, removed 1
-pub v423-flush-expired : flushExpiredCall (1 ∷ 1 ∷ 86 ∷ 4 ∷ 0 ∷ 0 ∷ 1 ∷ 33 ∷ replicate 6 0) (98 ∷ replicate 33 120 ++ 99 ∷ 17 ∷ 24 ∷ replicate 27 0) 96 9 ≡ gave (plain Done 1) (1 ∷ replicate 13 0) (98 ∷ replicate 33 120 ++ 99 ∷ 17 ∷ 24 ∷ replicate 27 0)
-unfolding entriesOf decode holds held freeRun every any rightLengths valueFits entrySound noneShared sound refuse checkSound _then_ checkClock clockChecks memoryOf encode flat call dead without remove flushed upTo flushExpiredWork flushExpiredCall
+pub v423-flush-expired : flushExpiredCall (1 ∷ 1 ∷ 86 ∷ 4 ∷ 0 ∷ 0 ∷ 1 ∷ 33 ∷ replicate 6 0) (98 ∷ replicate 33 120 ++ replicate 30 0) 96 9 ≡ gave (plain Done 1) (1 ∷ replicate 13 0) (replicate 64 0)
+unfolding entriesOf decode holds held freeRun every any rightLengths valueFits entrySound noneShared sound refuse checkSound _then_ checkClock clockChecks memoryOf encode flat call dead without put wiped remove flushed upTo flushExpiredWork flushExpiredCall
 v423-flush-expired = refl
 
 -- flush_expired: 0, rounds 0, removed 1
-pub v424-flush-expired : flushExpiredCall (1 ∷ 1 ∷ 99 ∷ 1 ∷ 4294967295 ∷ 0 ∷ 1 ∷ 1 ∷ replicate 18 0) (100 ∷ 1 ∷ replicate 126 0) 113 2 ≡ gave (plain Done 1) (1 ∷ replicate 25 0) (100 ∷ 1 ∷ replicate 126 0)
-unfolding entriesOf decode holds held freeRun every any rightLengths valueFits entrySound noneShared sound refuse checkSound _then_ checkClock clockChecks memoryOf encode flat call dead without remove flushed upTo flushExpiredWork flushExpiredCall
+pub v424-flush-expired : flushExpiredCall (1 ∷ 1 ∷ 99 ∷ 1 ∷ 4294967295 ∷ 0 ∷ 1 ∷ 1 ∷ replicate 18 0) (100 ∷ 1 ∷ replicate 126 0) 113 2 ≡ gave (plain Done 1) (1 ∷ replicate 25 0) (replicate 128 0)
+unfolding entriesOf decode holds held freeRun every any rightLengths valueFits entrySound noneShared sound refuse checkSound _then_ checkClock clockChecks memoryOf encode flat call dead without put wiped remove flushed upTo flushExpiredWork flushExpiredCall
 v424-flush-expired = refl
 
 -- flush_expired: 0, rounds 0, removed 1
-pub v425-flush-expired : flushExpiredCall (1 ∷ 3 ∷ 105 ∷ 3 ∷ 5 ∷ 3 ∷ 1 ∷ 8 ∷ 1 ∷ 3 ∷ 4294967295 ∷ 0 ∷ 40 ∷ 8 ∷ 0 ∷ 4 ∷ 4294967295 ∷ 2 ∷ 1 ∷ 30 ∷ replicate 6 0) (replicate 40 107 ++ 254 ∷ replicate 6 255 ++ 127 ∷ replicate 16 0 ++ 99 ∷ replicate 30 120 ++ 0 ∷ 97 ∷ 215 ∷ 102 ∷ replicate 6 255 ++ replicate 23 0) 75 2 ≡ gave (plain Done 1) (1 ∷ 2 ∷ 105 ∷ 3 ∷ 5 ∷ 3 ∷ 1 ∷ 8 ∷ 0 ∷ 4 ∷ 4294967295 ∷ 2 ∷ 1 ∷ 30 ∷ replicate 12 0) (replicate 40 107 ++ 254 ∷ replicate 6 255 ++ 127 ∷ replicate 16 0 ++ 99 ∷ replicate 30 120 ++ 0 ∷ 97 ∷ 215 ∷ 102 ∷ replicate 6 255 ++ replicate 23 0)
-unfolding entriesOf decode holds held freeRun every any rightLengths valueFits entrySound noneShared sound refuse checkSound _then_ checkClock clockChecks memoryOf encode flat call dead without remove flushed upTo flushExpiredWork flushExpiredCall
+pub v425-flush-expired : flushExpiredCall (1 ∷ 3 ∷ 105 ∷ 3 ∷ 5 ∷ 3 ∷ 1 ∷ 8 ∷ 1 ∷ 3 ∷ 4294967295 ∷ 0 ∷ 40 ∷ 8 ∷ 0 ∷ 4 ∷ 4294967295 ∷ 2 ∷ 1 ∷ 30 ∷ replicate 6 0) (replicate 40 107 ++ 254 ∷ replicate 6 255 ++ 127 ∷ replicate 16 0 ++ 99 ∷ replicate 30 120 ++ 0 ∷ 97 ∷ 215 ∷ 102 ∷ replicate 6 255 ++ replicate 23 0) 75 2 ≡ gave (plain Done 1) (1 ∷ 2 ∷ 105 ∷ 3 ∷ 5 ∷ 3 ∷ 1 ∷ 8 ∷ 0 ∷ 4 ∷ 4294967295 ∷ 2 ∷ 1 ∷ 30 ∷ replicate 12 0) (replicate 64 0 ++ 99 ∷ replicate 30 120 ++ 0 ∷ 97 ∷ 215 ∷ 102 ∷ replicate 6 255 ++ replicate 23 0)
+unfolding entriesOf decode holds held freeRun every any rightLengths valueFits entrySound noneShared sound refuse checkSound _then_ checkClock clockChecks memoryOf encode flat call dead without put wiped remove flushed upTo flushExpiredWork flushExpiredCall
 v425-flush-expired = refl
 
 -- flush_expired: 0, rounds 0, removed 2
-pub v426-flush-expired : flushExpiredCall (1 ∷ 2 ∷ 1 ∷ 3 ∷ 0 ∷ 1 ∷ 2 ∷ 8 ∷ 107 ∷ 4 ∷ 0 ∷ 0 ∷ 1 ∷ 8 ∷ replicate 12 0) (98 ∷ replicate 8 120 ++ replicate 23 7 ++ 97 ∷ 98 ∷ 10 ∷ 198 ∷ 184 ∷ 219 ∷ 45 ∷ 38 ∷ 207 ∷ 78 ∷ replicate 86 7) 157 0 ≡ gave (plain Done 2) (1 ∷ replicate 25 0) (98 ∷ replicate 8 120 ++ replicate 23 7 ++ 97 ∷ 98 ∷ 10 ∷ 198 ∷ 184 ∷ 219 ∷ 45 ∷ 38 ∷ 207 ∷ 78 ∷ replicate 86 7)
-unfolding entriesOf decode holds held freeRun every any rightLengths valueFits entrySound noneShared sound refuse checkSound _then_ checkClock clockChecks memoryOf encode flat call dead without remove flushed upTo flushExpiredWork flushExpiredCall
+pub v426-flush-expired : flushExpiredCall (1 ∷ 2 ∷ 1 ∷ 3 ∷ 0 ∷ 1 ∷ 2 ∷ 8 ∷ 107 ∷ 4 ∷ 0 ∷ 0 ∷ 1 ∷ 8 ∷ replicate 12 0) (98 ∷ replicate 8 120 ++ replicate 23 0 ++ 97 ∷ 98 ∷ 10 ∷ 198 ∷ 184 ∷ 219 ∷ 45 ∷ 38 ∷ 207 ∷ 78 ∷ replicate 22 0 ++ replicate 64 7) 157 0 ≡ gave (plain Done 2) (1 ∷ replicate 25 0) (replicate 64 0 ++ replicate 64 7)
+unfolding entriesOf decode holds held freeRun every any rightLengths valueFits entrySound noneShared sound refuse checkSound _then_ checkClock clockChecks memoryOf encode flat call dead without put wiped remove flushed upTo flushExpiredWork flushExpiredCall
 v426-flush-expired = refl
 
 -- flush_expired: 0, rounds 0, removed 1
-pub v427-flush-expired : flushExpiredCall (1 ∷ 3 ∷ 154 ∷ 4 ∷ 4294967295 ∷ 2 ∷ 1 ∷ 8 ∷ 111 ∷ 1 ∷ 4294967295 ∷ 1 ∷ 1 ∷ 1 ∷ 0 ∷ 1 ∷ 0 ∷ 0 ∷ 3 ∷ 1 ∷ replicate 6 0) (97 ∷ 98 ∷ 99 ∷ 1 ∷ replicate 28 0 ++ 97 ∷ 1 ∷ replicate 30 0 ++ 98 ∷ replicate 8 120 ++ replicate 55 0) 124 0 ≡ gave (plain Done 1) (1 ∷ 2 ∷ 154 ∷ 4 ∷ 4294967295 ∷ 2 ∷ 1 ∷ 8 ∷ 0 ∷ 1 ∷ 0 ∷ 0 ∷ 3 ∷ 1 ∷ replicate 12 0) (97 ∷ 98 ∷ 99 ∷ 1 ∷ replicate 28 0 ++ 97 ∷ 1 ∷ replicate 30 0 ++ 98 ∷ replicate 8 120 ++ replicate 55 0)
-unfolding entriesOf decode holds held freeRun every any rightLengths valueFits entrySound noneShared sound refuse checkSound _then_ checkClock clockChecks memoryOf encode flat call dead without remove flushed upTo flushExpiredWork flushExpiredCall
+pub v427-flush-expired : flushExpiredCall (1 ∷ 3 ∷ 154 ∷ 4 ∷ 4294967295 ∷ 2 ∷ 1 ∷ 8 ∷ 111 ∷ 1 ∷ 4294967295 ∷ 1 ∷ 1 ∷ 1 ∷ 0 ∷ 1 ∷ 0 ∷ 0 ∷ 3 ∷ 1 ∷ replicate 6 0) (97 ∷ 98 ∷ 99 ∷ 1 ∷ replicate 28 0 ++ 97 ∷ 1 ∷ replicate 30 0 ++ 98 ∷ replicate 8 120 ++ replicate 55 0) 124 0 ≡ gave (plain Done 1) (1 ∷ 2 ∷ 154 ∷ 4 ∷ 4294967295 ∷ 2 ∷ 1 ∷ 8 ∷ 0 ∷ 1 ∷ 0 ∷ 0 ∷ 3 ∷ 1 ∷ replicate 12 0) (97 ∷ 98 ∷ 99 ∷ 1 ∷ replicate 60 0 ++ 98 ∷ replicate 8 120 ++ replicate 55 0)
+unfolding entriesOf decode holds held freeRun every any rightLengths valueFits entrySound noneShared sound refuse checkSound _then_ checkClock clockChecks memoryOf encode flat call dead without put wiped remove flushed upTo flushExpiredWork flushExpiredCall
 v427-flush-expired = refl
 
 -- flush_expired: 0, rounds 0, removed 1
-pub v428-flush-expired : flushExpiredCall (1 ∷ 2 ∷ 96 ∷ 3 ∷ 0 ∷ 0 ∷ 1 ∷ 8 ∷ 0 ∷ 3 ∷ 0 ∷ 1 ∷ 2 ∷ 8 ∷ replicate 12 0) (97 ∷ 205 ∷ 250 ∷ replicate 6 255 ++ replicate 22 120 ++ 7 ∷ 97 ∷ 98 ∷ 15 ∷ 244 ∷ replicate 6 0 ++ replicate 36 7 ++ 39 ∷ replicate 49 7) 96 0 ≡ gave (plain Done 1) (1 ∷ 1 ∷ 0 ∷ 3 ∷ 0 ∷ 1 ∷ 2 ∷ 8 ∷ replicate 18 0) (97 ∷ 205 ∷ 250 ∷ replicate 6 255 ++ replicate 22 120 ++ 7 ∷ 97 ∷ 98 ∷ 15 ∷ 244 ∷ replicate 6 0 ++ replicate 36 7 ++ 39 ∷ replicate 49 7)
-unfolding entriesOf decode holds held freeRun every any rightLengths valueFits entrySound noneShared sound refuse checkSound _then_ checkClock clockChecks memoryOf encode flat call dead without remove flushed upTo flushExpiredWork flushExpiredCall
+pub v428-flush-expired : flushExpiredCall (1 ∷ 2 ∷ 96 ∷ 3 ∷ 0 ∷ 0 ∷ 1 ∷ 8 ∷ 0 ∷ 3 ∷ 0 ∷ 1 ∷ 2 ∷ 8 ∷ replicate 12 0) (97 ∷ 205 ∷ 250 ∷ replicate 6 255 ++ replicate 23 0 ++ 97 ∷ 98 ∷ 15 ∷ 244 ∷ replicate 6 0 ++ replicate 36 7 ++ 39 ∷ replicate 49 7) 96 0 ≡ gave (plain Done 1) (1 ∷ 1 ∷ 0 ∷ 3 ∷ 0 ∷ 1 ∷ 2 ∷ 8 ∷ replicate 18 0) (replicate 32 0 ++ 97 ∷ 98 ∷ 15 ∷ 244 ∷ replicate 6 0 ++ replicate 36 7 ++ 39 ∷ replicate 49 7)
+unfolding entriesOf decode holds held freeRun every any rightLengths valueFits entrySound noneShared sound refuse checkSound _then_ checkClock clockChecks memoryOf encode flat call dead without put wiped remove flushed upTo flushExpiredWork flushExpiredCall
 v428-flush-expired = refl
 
 -- flush_expired: 0, rounds 0, removed 3
-pub v429-flush-expired : flushExpiredCall (1 ∷ 3 ∷ 113 ∷ 4 ∷ 5 ∷ 2 ∷ 1 ∷ 30 ∷ 113 ∷ 3 ∷ 4294967295 ∷ 1 ∷ 3 ∷ 8 ∷ 1 ∷ 1 ∷ 4294967295 ∷ 0 ∷ 2 ∷ 1 ∷ replicate 6 0) (97 ∷ 98 ∷ 1 ∷ replicate 29 7 ++ 97 ∷ 98 ∷ 99 ∷ 1 ∷ replicate 7 0 ++ replicate 21 7 ++ 99 ∷ replicate 30 120 ++ replicate 33 7) 133 0 ≡ gave (plain Done 3) (1 ∷ replicate 25 0) (97 ∷ 98 ∷ 1 ∷ replicate 29 7 ++ 97 ∷ 98 ∷ 99 ∷ 1 ∷ replicate 7 0 ++ replicate 21 7 ++ 99 ∷ replicate 30 120 ++ replicate 33 7)
-unfolding entriesOf decode holds held freeRun every any rightLengths valueFits entrySound noneShared sound refuse checkSound _then_ checkClock clockChecks memoryOf encode flat call dead without remove flushed upTo flushExpiredWork flushExpiredCall
+pub v429-flush-expired : flushExpiredCall (1 ∷ 3 ∷ 113 ∷ 4 ∷ 5 ∷ 2 ∷ 1 ∷ 30 ∷ 113 ∷ 3 ∷ 4294967295 ∷ 1 ∷ 3 ∷ 8 ∷ 1 ∷ 1 ∷ 4294967295 ∷ 0 ∷ 2 ∷ 1 ∷ replicate 6 0) (97 ∷ 98 ∷ 1 ∷ replicate 29 7 ++ 97 ∷ 98 ∷ 99 ∷ 1 ∷ replicate 7 0 ++ replicate 21 7 ++ 99 ∷ replicate 30 120 ++ replicate 33 7) 133 0 ≡ gave (plain Done 3) (1 ∷ replicate 25 0) (replicate 96 0 ++ replicate 32 7)
+unfolding entriesOf decode holds held freeRun every any rightLengths valueFits entrySound noneShared sound refuse checkSound _then_ checkClock clockChecks memoryOf encode flat call dead without put wiped remove flushed upTo flushExpiredWork flushExpiredCall
 v429-flush-expired = refl
 
 -- flush_expired: 0, rounds 0, removed 4
-pub v430-flush-expired : flushExpiredCall (1 ∷ 4 ∷ 143 ∷ 3 ∷ 4294967295 ∷ 2 ∷ 3 ∷ 8 ∷ 137 ∷ 1 ∷ 4294967295 ∷ 1 ∷ 2 ∷ 1 ∷ 204 ∷ 3 ∷ 4294967295 ∷ 0 ∷ 1 ∷ 8 ∷ 167 ∷ 3 ∷ 0 ∷ 3 ∷ 1 ∷ 8 ∷ []) (100 ∷ 46 ∷ 133 ∷ 254 ∷ replicate 5 255 ++ replicate 23 120 ++ 98 ∷ 97 ∷ 0 ∷ replicate 29 7 ++ 97 ∷ 98 ∷ 99 ∷ 5 ∷ 15 ∷ replicate 6 0 ++ replicate 21 7 ++ 98 ∷ 35 ∷ 104 ∷ 1 ∷ replicate 5 0 ++ replicate 23 7) 18446744073709551615 0 ≡ gave (plain Done 4) (1 ∷ replicate 25 0) (100 ∷ 46 ∷ 133 ∷ 254 ∷ replicate 5 255 ++ replicate 23 120 ++ 98 ∷ 97 ∷ 0 ∷ replicate 29 7 ++ 97 ∷ 98 ∷ 99 ∷ 5 ∷ 15 ∷ replicate 6 0 ++ replicate 21 7 ++ 98 ∷ 35 ∷ 104 ∷ 1 ∷ replicate 5 0 ++ replicate 23 7)
-unfolding entriesOf decode holds held freeRun every any rightLengths valueFits entrySound noneShared sound refuse checkSound _then_ checkClock clockChecks memoryOf encode flat call dead without remove flushed upTo flushExpiredWork flushExpiredCall
+pub v430-flush-expired : flushExpiredCall (1 ∷ 4 ∷ 143 ∷ 3 ∷ 4294967295 ∷ 2 ∷ 3 ∷ 8 ∷ 137 ∷ 1 ∷ 4294967295 ∷ 1 ∷ 2 ∷ 1 ∷ 204 ∷ 3 ∷ 4294967295 ∷ 0 ∷ 1 ∷ 8 ∷ 167 ∷ 3 ∷ 0 ∷ 3 ∷ 1 ∷ 8 ∷ []) (100 ∷ 46 ∷ 133 ∷ 254 ∷ replicate 5 255 ++ replicate 23 0 ++ 98 ∷ 97 ∷ replicate 30 0 ++ 97 ∷ 98 ∷ 99 ∷ 5 ∷ 15 ∷ replicate 6 0 ++ replicate 21 7 ++ 98 ∷ 35 ∷ 104 ∷ 1 ∷ replicate 5 0 ++ replicate 23 7) 18446744073709551615 0 ≡ gave (plain Done 4) (1 ∷ replicate 25 0) (replicate 128 0)
+unfolding entriesOf decode holds held freeRun every any rightLengths valueFits entrySound noneShared sound refuse checkSound _then_ checkClock clockChecks memoryOf encode flat call dead without put wiped remove flushed upTo flushExpiredWork flushExpiredCall
 v430-flush-expired = refl
 
 -- get_keys: 0, rounds 0, removed 0
-pub v431-get-keys : getKeysFlatCall (1 ∷ 2 ∷ 0 ∷ 4 ∷ 5 ∷ 0 ∷ 1 ∷ 63 ∷ 0 ∷ 3 ∷ 4294967295 ∷ 2 ∷ 3 ∷ 8 ∷ replicate 12 0) (98 ∷ replicate 63 120 ++ 97 ∷ 98 ∷ 99 ∷ 225 ∷ 107 ∷ replicate 6 255 ++ replicate 23 120 ++ replicate 30 0) 160 0 (replicate 7 7) ≡ flatListing (plain (Count 2) 0) (0 ∷ 1 ∷ 4 ∷ 2 ∷ 3 ∷ 3 ∷ 7 ∷ [])
+pub v431-get-keys : getKeysFlatCall (1 ∷ 2 ∷ 0 ∷ 4 ∷ 5 ∷ 0 ∷ 1 ∷ 63 ∷ 0 ∷ 3 ∷ 4294967295 ∷ 2 ∷ 3 ∷ 8 ∷ replicate 12 0) (98 ∷ replicate 63 120 ++ 97 ∷ 98 ∷ 99 ∷ 225 ∷ 107 ∷ replicate 6 255 ++ replicate 53 0) 160 0 (replicate 7 7) ≡ flatListing (plain (Count 2) 0) (0 ∷ 1 ∷ 4 ∷ 2 ∷ 3 ∷ 3 ∷ 7 ∷ [])
 unfolding entriesOf decode holds held freeRun every any rightLengths valueFits entrySound noneShared sound refuse checkSound _then_ checkClock clockChecks memoryOf dead rowOf liveOf upTo keyCount keyRows rowWords listedFlat flatKeysOf getKeysFlatCall
 v431-get-keys = refl
 
@@ -165,7 +165,7 @@ unfolding entriesOf decode holds held freeRun every any rightLengths valueFits e
 v435-get-keys = refl
 
 -- get_keys: 0, rounds 0, removed 0
-pub v436-get-keys : getKeysFlatCall (1 ∷ 2 ∷ 127 ∷ 3 ∷ 5 ∷ 1 ∷ 2 ∷ 8 ∷ 121 ∷ 1 ∷ 5 ∷ 0 ∷ 1 ∷ 1 ∷ replicate 12 0) (100 ∷ 1 ∷ replicate 30 120 ++ 98 ∷ 97 ∷ 119 ∷ 223 ∷ replicate 6 255 ++ replicate 19 120 ++ replicate 67 7) 102 2 (replicate 5 7) ≡ flatListing (plain (Count 1) 0) (1 ∷ 2 ∷ 3 ∷ 7 ∷ 7 ∷ [])
+pub v436-get-keys : getKeysFlatCall (1 ∷ 2 ∷ 127 ∷ 3 ∷ 5 ∷ 1 ∷ 2 ∷ 8 ∷ 121 ∷ 1 ∷ 5 ∷ 0 ∷ 1 ∷ 1 ∷ replicate 12 0) (100 ∷ 1 ∷ replicate 30 0 ++ 98 ∷ 97 ∷ 119 ∷ 223 ∷ replicate 6 255 ++ replicate 22 0 ++ replicate 64 7) 102 2 (replicate 5 7) ≡ flatListing (plain (Count 1) 0) (1 ∷ 2 ∷ 3 ∷ 7 ∷ 7 ∷ [])
 unfolding entriesOf decode holds held freeRun every any rightLengths valueFits entrySound noneShared sound refuse checkSound _then_ checkClock clockChecks memoryOf dead rowOf liveOf upTo keyCount keyRows rowWords listedFlat flatKeysOf getKeysFlatCall
 v436-get-keys = refl
 

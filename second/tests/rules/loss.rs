@@ -1,6 +1,8 @@
 //! Demand 3, least loss, worked out from its own words (places and what they cost, never round by round) and compared
 //! with the stores in random sessions.
 
+use std::ops::Range;
+
 use crate::yard::*;
 use second::Answer;
 
@@ -19,9 +21,13 @@ impl Entry {
         (1..=clock).contains(&self.record[0])
     }
 
-    fn holds(&self, cell: usize) -> bool {
+    fn cells(&self) -> Range<usize> {
         let start = self.record[3] as usize;
-        (start..start + (self.key.len() + self.value.len()).div_ceil(32)).contains(&cell)
+        start..start + (self.key.len() + self.value.len()).div_ceil(32)
+    }
+
+    fn holds(&self, cell: usize) -> bool {
+        self.cells().contains(&cell)
     }
 }
 
@@ -62,11 +68,11 @@ struct New<'a> {
     expiry: u64,
 }
 
-/// What a store that goes on must answer and leave.
-fn expected(cells: usize, before: &[Entry], clock: u64, new: &New, safe: bool) -> (Answer, Vec<Entry>) {
+/// What a store that goes on must answer, the entries that it leaves, and those that it removes.
+fn expected(cells: usize, before: &[Entry], clock: u64, new: &New, safe: bool) -> (Answer, Vec<Entry>, Vec<Entry>) {
     let mut line: Vec<Entry> = before.iter().rev().cloned().collect();
     let swept = line.iter().take(2).take_while(|entry| entry.dead(clock)).count();
-    line.drain(..swept);
+    let mut gone: Vec<Entry> = line.drain(..swept).collect();
     let entry = |start| Entry {
         record: [
             new.expiry,
@@ -80,7 +86,7 @@ fn expected(cells: usize, before: &[Entry], clock: u64, new: &New, safe: bool) -
         value: new.value.into(),
     };
     // `removed` entries leave at the long-unused end; the new one, if it is stored, is the most recently used
-    let finish = |rounds: usize, removed: usize, new: Option<Entry>, mut line: Vec<Entry>| {
+    let finish = |rounds: usize, removed: usize, new: Option<Entry>, mut line: Vec<Entry>, mut gone: Vec<Entry>| {
         let taken: Vec<Entry> = line.drain(..removed).collect();
         let answer = Answer {
             outcome: if new.is_some() { 0 } else { 12 },
@@ -90,13 +96,15 @@ fn expected(cells: usize, before: &[Entry], clock: u64, new: &New, safe: bool) -
             ..DONE
         };
         line.extend(new);
-        (answer, line.into_iter().rev().collect())
+        gone.extend(taken);
+        (answer, line.into_iter().rev().collect(), gone)
     };
     if let Some(own) = line.iter().rposition(|entry| entry.key == new.key) {
         let old = line.remove(own);
         if old.value.len() == new.value.len() {
-            return finish(0, 0, Some(entry(old.record[3] as usize)), line);
+            return finish(0, 0, Some(entry(old.record[3] as usize)), line, gone);
         }
+        gone.push(old);
     }
     let rounds = rounds_of(&line, clock);
     let need = (new.key.len() + new.value.len()).div_ceil(32);
@@ -104,14 +112,16 @@ fn expected(cells: usize, before: &[Entry], clock: u64, new: &New, safe: bool) -
     let limit = if safe { 0 } else { 30 };
     let best = places.map(|start| (cost(&line, &rounds, start, need), start)).min();
     match best {
-        Some((cost, start)) if cost <= limit => finish(cost, rounds[..cost].iter().sum(), Some(entry(start)), line),
-        _ => finish(0, 0, None, line),
+        Some((cost, start)) if cost <= limit => {
+            finish(cost, rounds[..cost].iter().sum(), Some(entry(start)), line, gone)
+        }
+        _ => finish(0, 0, None, line, gone),
     }
 }
 
-/// The pool afterwards: only key and value of a stored entry are written.
-fn assert_pool(before: &Yard, after: &Yard, stored: bool) {
-    let mut pool = before.pool.clone();
+/// The pool afterwards: the cells of the entries that left are zero, and then key and value of a stored entry are written.
+fn assert_pool(before: &Yard, gone: &[Entry], after: &Yard, stored: bool) {
+    let mut pool = before.pool_without(gone.iter().flat_map(Entry::cells));
     if stored {
         let [_, _, _, start, key, value] = after.record(0).map(|word| word as usize);
         let bytes = 32 * start..32 * start + key + value;
@@ -165,7 +175,7 @@ fn try_store(yard: &mut Yard, dice: &mut Dice, clock: u64, key: &[u8], most_byte
     let bytes = bytes_of(&value);
     let expiry = if value.lifetime == 0 { 0 } else { clock + value.lifetime };
     let new = New { key, value: &bytes, kind: value.kind, flags: value.flags, expiry };
-    let (mut answer, after) = expected(yard.pool.len() / 32, &line, clock, &new, safe);
+    let (mut answer, after, gone) = expected(yard.pool.len() / 32, &line, clock, &new, safe);
     if incr {
         if answer.outcome == 0 {
             answer = Answer { kind: 3, number: value.number, ..answer };
@@ -178,7 +188,17 @@ fn try_store(yard: &mut Yard, dice: &mut Dice, clock: u64, key: &[u8], most_byte
     assert_eq!(entries(yard), after);
     assert!(yard.dir[2 + 6 * yard.count()..].iter().all(|&word| word == 0));
     assert!(answer.removed <= 92);
-    assert_pool(&before, yard, answer.outcome == 0);
+    assert_pool(&before, &gone, yard, answer.outcome == 0);
+}
+
+/// From a fresh memory on, every byte that belongs to no entry's key or value is zero.
+fn assert_clean(yard: &Yard) {
+    let mut pool = yard.pool.clone();
+    for slot in 0..yard.count() {
+        let [_, _, _, start, key, value] = yard.record(slot).map(|word| word as usize);
+        pool[32 * start..][..key + value].fill(0);
+    }
+    assert!(pool.iter().all(|&byte| byte == 0));
 }
 
 fn session(seed: u64, cells: usize, calls: usize, most_bytes: usize) {
@@ -199,6 +219,7 @@ fn session(seed: u64, cells: usize, calls: usize, most_bytes: usize) {
             _ => try_store(&mut yard, &mut dice, clock, key.as_bytes(), most_bytes),
         }
         assert!(yard.audit(), "equal keys or an unsound memory from a fresh one");
+        assert_clean(&yard);
     }
 }
 

@@ -37,13 +37,14 @@ fn alternating() -> Yard {
 
 #[test]
 fn flush_expired_takes_the_longest_unused_first() {
+    let dead = [5, 3, 2, 0];
     for (maximum, removed, order) in
         [(0, 4, "b e"), (1, 1, "a b c d e"), (2, 2, "a b c e"), (3, 3, "a b e"), (4, 4, "b e"), (u64::MAX, 4, "b e")]
     {
         let mut yard = alternating();
         assert_eq!(yard.flush_expired(10, maximum), stored(0, removed));
         assert_eq!(yard.order(), order);
-        assert_eq!(yard.pool, alternating().pool);
+        assert_eq!(yard.pool, alternating().pool_without(dead.into_iter().take(removed as usize)));
         assert!(yard.dir[2 + 6 * yard.count()..].iter().all(|&word| word == 0));
         assert!(yard.audit());
     }

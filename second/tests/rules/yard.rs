@@ -131,13 +131,14 @@ impl Yard {
 
     pub fn fresh(cells: usize) -> Yard {
         let mut yard = Yard::wild(cells);
-        assert_eq!(second::make_fresh(&mut yard.dir, &yard.pool), DONE);
+        assert_eq!(second::make_fresh(&mut yard.dir, &mut yard.pool), DONE);
         yard
     }
 
-    /// A memory with these entries, most recently used first.
+    /// A memory with these entries, most recently used first. The other bytes of its pool are not zero: "old memories
+    /// still load".
     pub fn with(cells: usize, entries: &[Hand]) -> Yard {
-        let mut yard = Yard::fresh(cells);
+        let mut yard = Yard { pool: Yard::wild(cells).pool, ..Yard::fresh(cells) };
         yard.dir[1] = entries.len() as u64;
         for (slot, entry) in entries.iter().enumerate() {
             yard.dir[2 + 6 * slot..8 + 6 * slot].copy_from_slice(&entry.record());
@@ -152,6 +153,15 @@ impl Yard {
     /// "full yard" of 01: "a, b, c, d with one cell each at 0, 1, 2, 3, never expiring, a longest unused".
     pub fn full() -> Yard {
         Yard::with(4, &[number("d", 3, 4), number("c", 2, 3), number("b", 1, 2), number("a", 0, 1)])
+    }
+
+    /// The pool with these cells wiped.
+    pub fn pool_without(&self, cells: impl IntoIterator<Item = usize>) -> Vec<u8> {
+        let mut pool = self.pool.clone();
+        for cell in cells {
+            pool[32 * cell..32 * (cell + 1)].fill(0);
+        }
+        pool
     }
 
     pub fn count(&self) -> usize {
@@ -183,7 +193,7 @@ impl Yard {
     }
 
     pub fn get(&mut self, clock: u64, key: &str) -> Answer {
-        second::get(&mut self.dir, &self.pool, clock, key.as_bytes())
+        second::get(&mut self.dir, &mut self.pool, clock, key.as_bytes())
     }
 
     pub fn get_stale(&self, clock: u64, key: &str) -> Answer {
@@ -203,7 +213,7 @@ impl Yard {
     }
 
     pub fn delete(&mut self, clock: u64, key: &str) -> Answer {
-        second::delete(&mut self.dir, &self.pool, clock, key.as_bytes())
+        second::delete(&mut self.dir, &mut self.pool, clock, key.as_bytes())
     }
 
     pub fn expire(&mut self, clock: u64, key: &str, lifetime: u64) -> Answer {
@@ -219,7 +229,7 @@ impl Yard {
     }
 
     pub fn flush_expired(&mut self, clock: u64, maximum: u64) -> Answer {
-        second::flush_expired(&mut self.dir, &self.pool, clock, maximum)
+        second::flush_expired(&mut self.dir, &mut self.pool, clock, maximum)
     }
 
     pub fn set(&mut self, clock: u64, key: &str, value: Value) -> Answer {

@@ -29,9 +29,9 @@ pub fn by_second(call: &Call) -> Ready {
     }
     let initial = has_initial.then_some((number, lifetime));
     match call.name {
-        Name::MakeFresh => ready!(|m| second::make_fresh(&mut m.dir, &m.pool)),
+        Name::MakeFresh => ready!(|m| second::make_fresh(&mut m.dir, &mut m.pool)),
         Name::Audit => ready!(|m| second::audit(&m.dir, &m.pool)),
-        Name::Get => ready!(|m| second::get(&mut m.dir, &m.pool, clock, black_box(&key))),
+        Name::Get => ready!(|m| second::get(&mut m.dir, &mut m.pool, clock, black_box(&key))),
         Name::GetStale => ready!(|m| second::get_stale(&m.dir, &m.pool, clock, black_box(&key))),
         Name::Ttl => ready!(|m| second::ttl(&m.dir, &m.pool, clock, black_box(&key))),
         Name::Show => ready!(|m| second::show(&m.dir, &m.pool, clock, black_box(&key), b"none")),
@@ -41,10 +41,10 @@ pub fn by_second(call: &Call) -> Ready {
         Name::SafeAdd => store!(second::safe_add),
         Name::Replace => store!(second::replace),
         Name::Incr => ready!(|m| second::incr(&mut m.dir, &mut m.pool, clock, black_box(&key), step, initial)),
-        Name::Delete => ready!(|m| second::delete(&mut m.dir, &m.pool, clock, black_box(&key))),
+        Name::Delete => ready!(|m| second::delete(&mut m.dir, &mut m.pool, clock, black_box(&key))),
         Name::Expire => ready!(|m| second::expire(&mut m.dir, &m.pool, clock, black_box(&key), lifetime)),
         Name::FlushAll => ready!(|m| second::flush_all(&mut m.dir, &m.pool)),
-        Name::FlushExpired => ready!(|m| second::flush_expired(&mut m.dir, &m.pool, clock, maximum)),
+        Name::FlushExpired => ready!(|m| second::flush_expired(&mut m.dir, &mut m.pool, clock, maximum)),
         Name::GetKeys => ready!(|m| second::get_keys(&m.dir, &m.pool, clock, maximum, &mut table)),
         Name::BytesAt => unreachable!("bytes_at is not timed: it only compares three numbers"),
     }

@@ -39,7 +39,7 @@ pub fn crowd(cells: usize) -> Memory {
     let mut order: Vec<usize> = (0..cells).collect();
     Random::new(1).shuffle(&mut order);
     for number in order {
-        second::get(&mut memory.dir, &memory.pool, CLOCK, &plate(number));
+        second::get(&mut memory.dir, &mut memory.pool, CLOCK, &plate(number));
     }
     memory
 }

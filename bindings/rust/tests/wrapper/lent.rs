@@ -12,7 +12,7 @@ fn a_lent_memory_keeps_what_was_stored() {
     assert_eq!(dir[..8], [1, 1, 0, 3, 0, 0, 4, 8]);
     assert!(dir[8..].iter().all(|&word| word == 0));
     assert_eq!(pool[..4], *b"AB12");
-    assert!(pool[12..].iter().all(|&byte| byte == 0xff), "a fresh memory leaves the pool");
+    assert!(pool[12..].iter().all(|&byte| byte == 0), "a fresh memory's pool is zero");
     // handed in again
     let mut dict = Dict::from_parts(&mut dir, &mut pool);
     assert_eq!(dict.get(1, b"AB12").map(|found| found.value), Ok(Value::Number(14_200)));

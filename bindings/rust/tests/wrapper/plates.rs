@@ -64,6 +64,9 @@ fn p9_to_p11_a_refused_store_keeps_no_old_tare() {
     assert_eq!(yard, before);
     assert_eq!(yard.safe_set(1000, b"a", Value::Text(&text_for(2)), 0, 0), Err(bare(Refusal::NoMemory)));
     assert_eq!(order(&yard, 1000), "dcb");
+    let (_, pool) = yard.into_parts();
+    assert!(pool[..32].iter().all(|&byte| byte == 0), "a's cell is wiped");
+    assert_eq!(pool[32], b'b');
 }
 
 #[test]

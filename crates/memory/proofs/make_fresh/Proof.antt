@@ -32,6 +32,9 @@ clear-requires c κs = omega (arith, lengths-are _ _ (sym (c .before .before .ri
 slice-write-dir : tie.Need-slice-write-dir
 slice-write-dir c = omega (arith, lengths-are _ _ (sym (c .before .before .before .before .before .right-lengths .ensures) ∙ not-false _ (c .before .before .before .before .if1 .left)))
 
+wipe-requires : tie.Need-wipe-requires
+wipe-requires c κs = search needs
+
 plain-requires-2 : tie.Need-plain-requires-2
 plain-requires-2 c κs = search needs
 
@@ -42,7 +45,7 @@ same-length-4 : tie.Need-same-length-4
 same-length-4 c = search needs
 
 returns-2 : tie.Need-returns-2
-returns-2 c = fresh-done _ _ _ _ (c .before .before .before .before .before .before .right-lengths .ensures) (c .before .before .before .before .before .if1 .left) (c .plain2 .ensures) (c .before .before .before .clear .ensures)
+returns-2 c = fresh-done _ _ _ _ (c .before .before .before .before .before .before .before .before .before .before .right-lengths .ensures) (c .before .before .before .before .before .before .before .before .before .if1 .left) (c .plain2 .ensures) (c .before .before .before .before .before .before .before .clear .ensures) (c .before .before .before .wipe .ensures)
 
 pub make-fresh-spec : {M : Type 1} → statement M
 make-fresh-spec =
@@ -56,6 +59,7 @@ make-fresh-spec =
     sub-clear
     clear-requires
     slice-write-dir
+    wipe-requires
     plain-requires-2
     same-length-3
     same-length-4

@@ -4,22 +4,21 @@ use Prim.Native.Nat.{_-_}
 use native.Mathlib.Omega.{arith}
 use lib.ListN.{length}
 use Rattle.rules.specs.Layout.{entriesOf}
-use Rattle.laws.specs.Buffers.{given-sound}
 use Rattle.upkeep.specs.Dropping.{Moved, moved-none, moved-dead, moved-live, moved-all}
 use Rattle.upkeep.proofs.drop_dead.Statement.{statement}
 use Rattle.upkeep.proofs.drop_dead.Tie as tie
 
 abbrev Inv-loop : tie.InvT-loop
-Inv-loop dir₀ pool clock first n kept₀ i₀ dir kept i = (n ≡ length (entriesOf dir₀)) × Moved clock first dir₀ kept i dir
+Inv-loop dir₀ clock first n kept₀ i₀ dir kept i = (n ≡ length (entriesOf dir₀)) × Moved clock first dir₀ kept i dir
 
 abbrev μ-loop : tie.MeasureT-loop
-μ-loop dir₀ pool clock first n kept₀ i₀ dir kept i = n - i
+μ-loop dir₀ clock first n kept₀ i₀ dir kept i = n - i
 
 count-requires : tie.Need-count-requires Inv-loop μ-loop
-count-requires c κs = given-sound _ _ (c .before .before .before .pre .0) .dir-is
+count-requires c κs = c .before .before .pre .0
 
 loop-holds : tie.Need-loop-holds Inv-loop μ-loop
-loop-holds c = (c .count .ensures, moved-none (given-sound _ _ (c .before .before .before .before .pre .0) .dir-is) (c .before .before .before .before .pre .1))
+loop-holds c = (c .count .ensures, moved-none (c .before .before .before .pre .0) (c .before .before .before .pre .1))
 
 record-at-requires : tie.Need-record-at-requires Inv-loop μ-loop
 record-at-requires c κs = (c .before .before .loop .inv .1 .dir, omega arith)
@@ -55,7 +54,7 @@ same-length : tie.Need-same-length Inv-loop μ-loop
 same-length c = omega arith
 
 returns : tie.Need-returns Inv-loop μ-loop
-returns c = moved-all (c .before .before .before .before .before .loop .inv .1) _ (omega arith) (c .before .before .truncate .ensures)
+returns c = moved-all (c .before .before .before .before .before .loop .inv .1) (omega arith) (c .before .before .truncate .ensures)
 
 pub drop-dead-spec : {M : Type 1} → statement M
 drop-dead-spec =

@@ -13,15 +13,15 @@ count-requires c κs = given-sound _ _ (c .before .before .before .pre) .dir-is
 up-to-requires : tie.Need-up-to-requires
 up-to-requires c κs = search needs
 
-first-to-go-requires : tie.Need-first-to-go-requires
-first-to-go-requires c κs = search needs
+wipe-dead-requires : tie.Need-wipe-dead-requires
+wipe-dead-requires c κs = search needs
 
 drop-dead-requires : tie.Need-drop-dead-requires
 unfolding memoryOf
-drop-dead-requires c κs = (c .before .before .before .before .before .before .before .before .before .before .pre, omega (arith, c .before .before .first-to-go .ensures .within))
+drop-dead-requires c κs = (given-sound _ _ (c .before .before .before .before .before .before .before .before .before .before .before .pre) .dir-is, omega (arith, c .before .before .before .wipe-dead .ensures .within))
 
 sub-plain : tie.Need-sub-plain
-sub-plain c = omega (arith, c .before .before .before .before .drop-dead .ensures .few, c .before .before .before .before .before .before .before .before .before .before .before .count .ensures)
+sub-plain c = omega (arith, c .before .before .drop-dead .ensures .few, c .before .before .before .before .before .before .before .before .before .before .count .ensures)
 
 plain-requires : tie.Need-plain-requires
 plain-requires c κs = search needs
@@ -33,7 +33,7 @@ same-length-2 : tie.Need-same-length-2
 same-length-2 c = search needs
 
 returns : tie.Need-returns
-returns c = flush-done _ _ _ (c .before .before .before .before .before .before .before .before .before .before .before .before .count .ensures) (c .before .before .before .before .before .before .before .before .before .before .before .up-to .ensures) (c .before .before .before .before .before .before .before .before .first-to-go .ensures) (c .before .before .before .before .before .drop-dead .ensures) (c .plain .ensures)
+returns c = flush-done _ _ _ (c .before .before .before .before .before .before .before .before .before .before .before .count .ensures) (c .before .before .before .before .before .before .before .before .before .before .up-to .ensures) (c .before .before .before .before .before .before .before .wipe-dead .ensures) (c .before .before .before .drop-dead .ensures) (c .plain .ensures)
 
 pub flush-expired-in-spec : {M : Type 1} → statement M
 flush-expired-in-spec =
@@ -41,7 +41,7 @@ flush-expired-in-spec =
     (tie.spec
     count-requires
     up-to-requires
-    first-to-go-requires
+    wipe-dead-requires
     drop-dead-requires
     sub-plain
     plain-requires

@@ -1,0 +1,20 @@
+-- Request 2 of document 02, as somebody sees it who reads the pool: "whenever any call removes an entry, all its cells become zero at once".
+use mathlib.Core.Path.{_≡_}
+use mathlib.Core.Bool.{true, false}
+use mathlib.Core.List.{List}
+use Prim.Native.Nat.{ℕ, _+_, _*_, _<_}
+use lib.ListN.{getD}
+use Rattle.rules.specs.Layout.{Memory}
+use Rattle.rules.specs.Place.{held}
+
+-- all bytes of cell c are zero
+abbrev pub ZeroCell : List ℕ → ℕ → Type 0
+ZeroCell pool c = (j : ℕ) → j < 32 → getD pool (32 * c + j) 0 ≡ 0
+
+-- a cell that an entry held before a call, and that none holds after it, is zero
+pub record GivesUpZero (before after : Memory) : Type 0 where
+  pub zero : (c : ℕ) → held (before .entries) c ≡ true → held (after .entries) c ≡ false → ZeroCell (after .pool) c
+
+-- "every cell that no entry holds is zero"
+pub record Clean (m : Memory) : Type 0 where
+  pub zero : (c : ℕ) → held (m .entries) c ≡ false → ZeroCell (m .pool) c
