@@ -35,5 +35,5 @@ pub mod NumberLaws
 pub mod ForcedLaws
 pub mod Anew
 pub mod SparedLaws
-pub mod ZeroCells
+pub mod ZeroBytes
 pub mod CleanLaws

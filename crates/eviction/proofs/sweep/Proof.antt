@@ -1,6 +1,5 @@
 -- `eviction::sweep` meets its contract.
 use Rattle.eviction.specs.Swept.{swept-few, swept-is}
-use Prim.Native.Nat.{_-_}
 use borrow.Author.Needs.{needs}
 use Rattle.eviction.proofs.sweep.Statement.{statement}
 use Rattle.eviction.proofs.sweep.Tie as tie

@@ -1,5 +1,5 @@
 -- `memory::remove_oldest` meets its contract. The loop's invariant: the entries from `left` on are wiped.
-use Prim.Native.Nat.{_-_, _≤_}
+use Prim.Native.Nat.{_≤_}
 use native.Mathlib.Omega.{arith}
 use Rattle.laws.specs.Buffers.{given-sound, oldest-none}
 use Rattle.memory.specs.Oldest.{Wiping, wiping-none, wiping-length, wiping-inside, wiping-more, wiping-done}
