@@ -69,3 +69,22 @@ impl Memory {
         self.pool.clone_from(&other.pool);
     }
 }
+
+#[cfg(test)]
+mod tests {
+    use super::*;
+
+    #[test]
+    fn a_byte_of_no_entry_is_found() {
+        let mut memory = Memory::fresh(2);
+        memory.dir[1] = 1;
+        memory.record_mut(0).copy_from_slice(&[0, 4, 0, 0, 1, 2]);
+        memory.pool[..3].copy_from_slice(b"a42");
+        assert_eq!(memory.left_over(), None);
+        for at in [3, 31, 32, 63] {
+            let mut left = memory.clone();
+            left.pool[at] = 1;
+            assert_eq!(left.left_over(), Some(at));
+        }
+    }
+}

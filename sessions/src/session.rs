@@ -186,3 +186,22 @@ impl Session {
         self.clock
     }
 }
+
+#[cfg(test)]
+mod tests {
+    use super::*;
+    use crate::call::Args;
+
+    #[test]
+    fn a_byte_left_of_an_entry_is_objected_to() {
+        let mut session = Session::new(1);
+        let mut memory = Memory::fresh(2);
+        memory.pool[40] = 7;
+        session.duel.load(&memory);
+        let call = Call { name: Name::FlushAll, args: Args::default() };
+        let reply = session.duel.call(&call).unwrap();
+        let objection = session.look_for_left_over(&call, &reply).unwrap_err();
+        assert_eq!(objection.place, "byte 40 of the pool is no entry's and not 0");
+        assert_eq!(objection.before, memory);
+    }
+}
