@@ -14,7 +14,8 @@ texts come back as bytes. A refused call raises Refused, which has no room for a
 iteration, `keys`, `values`, `items`, `get_stale`, `ttl` and `show` change nothing. The other methods are the library's
 calls, by its names; include/reefcandor.h says what each does.
 
-The clock is read once a call, in milliseconds. A lifetime of 0 is for ever. A memory is used by one thread at a time.
+The clock is read once a call, in milliseconds. A lifetime of 0 is for ever. Whenever an entry leaves, all its cells in
+the pool become zero at once. A memory is used by one thread at a time.
 """
 
 import ctypes
@@ -294,7 +295,7 @@ class Dict(MutableMapping):
     # ---- the library's calls
 
     def make_fresh(self):
-        """Makes an empty memory, whatever stood there."""
+        """Makes an empty memory, whatever stood there. The whole pool becomes zero."""
         self._ask("make_fresh")
 
     def audit(self):

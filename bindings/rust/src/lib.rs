@@ -29,6 +29,7 @@
 //! * `clock` is in milliseconds, and only this value counts. An entry is dead if it has an expiry and that is at or
 //!   below the clock. A lifetime of 0 is for ever.
 //! * "Sweeps" means that up to two dead entries leave first at the long-unused end, up to the first live one.
+//! * Whenever an entry leaves, by whatever call, all its cells become zero at once, also if the call is then refused.
 //! * Numbers are as wide as in the library; `include/reefcandor.h` says the same for C.
 
 #![warn(missing_docs)]
