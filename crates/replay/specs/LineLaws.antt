@@ -1,16 +1,16 @@
 -- Lines of an input, one after the other: what is done goes before what the rest gives, whatever follows.
 use mathlib.Core.Path.{_≡_, refl, sym, ap, _∙_}
-use mathlib.Core.Bool.{Bool, true, cond}
+use mathlib.Core.Bool.{Bool, true, cond, and-false}
 use mathlib.Core.List.{List, [], _∷_, _++_, append-assoc, append-nil}
 use Prim.Native.Nat.{ℕ, suc, _+_, _-_, _≤_, _<_}
 use native.Mathlib.Omega.{arith}
-use lib.Dec.{eqb}
+use lib.Dec.{eqb, leb}
 use lib.ListN.{take, length-append, length-drop, length, drop, take-append-drop}
 use lib.Seq.{drop-cons, drop-drop, take-at, length-take-le}
-use borrow.Author.Tests.{not-true}
+use borrow.Author.Tests.{not-true, le-leb, lt-leb}
 use Rattle.rules.specs.Layout.{part}
 use Rattle.rules.specs.Soundness.{every}
-use Rattle.rules.specs.Replay.{linesFrom, linesOf, Replay, LineDone, callOf, lineDone, lineWritten, Written, linesDone}
+use Rattle.rules.specs.Replay.{linesFrom, linesOf, Replay, LineDone, callOf, lineDone, lineWritten, Written, linesDone, room, Reached, behind, reached}
 use Rattle.laws.specs.Booleans.{and-left, and-right}
 use Rattle.scanning.specs.Until.{other, Until}
 
@@ -55,29 +55,117 @@ pub cut-none : (input : List ℕ) (n : ℕ) → Cut input 0 n n
 unfolding linesOf linesFrom
 cut-none input n = record { whole = λ more. refl; count = omega arith }
 
-pub cut-line : {input : List ℕ} {at end lines₀ lines : ℕ} → Cut input at lines₀ lines → at ≤ length input → Until 10 input at end → end < length input → Cut input (end + 1) lines₀ (lines + 1)
-unfolding linesOf linesFrom
-cut-line {input} {at} {end} {lines₀} {lines} c i u h =
-    let a : List ℕ = take at input in
-    let line : List ℕ = part input at (end - at) in
-    let behind : List ℕ = drop (end + 1) input in
-    let size : length (a ++ (line ++ (10 ∷ []))) ≡ end + 1 =
-    length-append a (line ++ (10 ∷ []))
-    ∙ omega (arith, length-take-le at input i, length-append line (10 ∷ []), length-take-le (end - at) (drop at input) (omega (arith, length-drop at input, u .after, u .inside)), u .after) in
-    let all : input ≡ (a ++ (line ++ (10 ∷ []))) ++ behind =
-    sym (take-append-drop at input)
-    ∙ ap (λ (x : List ℕ). a ++ x) (cut-at u h ∙ sym (append-assoc line (10 ∷ []) behind))
-    ∙ sym (append-assoc a (line ++ (10 ∷ [])) behind) in
-    let front : take (end + 1) input ≡ a ++ (line ++ (10 ∷ [])) = ap (take (end + 1)) all ∙ take-at (a ++ (line ++ (10 ∷ []))) behind (end + 1) size in
-    let one : (more : List ℕ) → linesOf (take (end + 1) input ++ more) ≡ linesOf a ++ (line ∷ linesOf more) = λ more.
-    ap (λ (x : List ℕ). linesOf (x ++ more)) front
-    ∙ ap linesOf (append-assoc a (line ++ (10 ∷ [])) more ∙ ap (λ (x : List ℕ). a ++ x) (append-assoc line (10 ∷ []) more))
-    ∙ c .whole (line ++ (10 ∷ more))
-    ∙ ap (λ (x : List (List ℕ)). linesOf a ++ x) (lines-cut line more (u .nowhere)) in
-    let now : linesOf (take (end + 1) input) ≡ linesOf a ++ (line ∷ []) = ap linesOf (sym (append-nil (take (end + 1) input))) ∙ one [] in
+module _ {input : List ℕ} {at end lines₀ lines : ℕ} (c : Cut input at lines₀ lines) (i : at ≤ length input) (u : Until 10 input at end) (h : end < length input) where
+  abbrev line : List ℕ
+  line = part input at (end - at)
+
+  front-more : (more : List ℕ) → linesOf (take (end + 1) input ++ more) ≡ linesOf (take at input) ++ (line ∷ linesOf more)
+  front-more more =
+      let a : List ℕ = take at input in
+      let behind : List ℕ = drop (end + 1) input in
+      let size : length (a ++ (line ++ (10 ∷ []))) ≡ end + 1 =
+      length-append a (line ++ (10 ∷ []))
+      ∙ omega (arith, length-take-le at input i, length-append line (10 ∷ []), length-take-le (end - at) (drop at input) (omega (arith, length-drop at input, u .after, u .inside)), u .after) in
+      let all : input ≡ (a ++ (line ++ (10 ∷ []))) ++ behind =
+      sym (take-append-drop at input)
+      ∙ ap (λ (x : List ℕ). a ++ x) (cut-at u h ∙ sym (append-assoc line (10 ∷ []) behind))
+      ∙ sym (append-assoc a (line ++ (10 ∷ [])) behind) in
+      let front : take (end + 1) input ≡ a ++ (line ++ (10 ∷ [])) = ap (take (end + 1)) all ∙ take-at (a ++ (line ++ (10 ∷ []))) behind (end + 1) size in
+      ap (λ (x : List ℕ). linesOf (x ++ more)) front
+      ∙ ap linesOf (append-assoc a (line ++ (10 ∷ [])) more ∙ ap (λ (x : List ℕ). a ++ x) (append-assoc line (10 ∷ []) more))
+      ∙ c .whole (line ++ (10 ∷ more))
+      ∙ ap (λ (x : List (List ℕ)). linesOf a ++ x) (lines-cut line more (u .nowhere))
+
+  -- with the line's end there is one line more
+  pub front-lines : linesOf (take (end + 1) input) ≡ linesOf (take at input) ++ (line ∷ [])
+  unfolding linesOf linesFrom
+  front-lines = ap linesOf (sym (append-nil (take (end + 1) input))) ∙ front-more []
+
+  pub cut-line : Cut input (end + 1) lines₀ (lines + 1)
+  cut-line =
+      let a : List (List ℕ) = linesOf (take at input) in
+      record {
+        whole = λ more. front-more more ∙ sym (append-assoc a (line ∷ []) (linesOf more)) ∙ ap (λ (x : List (List ℕ)). x ++ linesOf more) (sym front-lines);
+        count = omega (arith, c .count, ap length front-lines ∙ length-append a (line ∷ []));
+      }
+
+-- ---- the lines done, by themselves
+
+-- one line more
+done-more : (n m : ℕ) (lines : List (List ℕ)) (line : List ℕ) (s : Replay) → m ≡ n + length lines → linesDone n (lines ++ (line ∷ [])) s ≡ record { output = linesDone n lines s .output ++ lineWritten m (lineDone (callOf line) (linesDone n lines s .left) .answer) (lineDone (callOf line) (linesDone n lines s .left) .after .pool); left = lineDone (callOf line) (linesDone n lines s .left) .after }
+unfolding linesDone
+done-more n m [] line s e =
+    let d : LineDone = lineDone (callOf line) s in
+    let same : n ≡ m = omega (arith, e) in
+    ap (λ (t : List ℕ). record { output = t; left = d .after }) (append-nil (lineWritten n (d .answer) (d .after .pool)) ∙ ap (λ (k : ℕ). lineWritten k (d .answer) (d .after .pool)) same)
+done-more n m (x ∷ lines) line s e =
+    let d : LineDone = lineDone (callOf x) s in
+    let text : List ℕ = lineWritten n (d .answer) (d .after .pool) in
+    let w : Written = linesDone (n + 1) lines (d .after) in
+    let last : LineDone = lineDone (callOf line) (w .left) in
+    ap (λ (v : Written). record { output = text ++ v .output; left = v .left }) (done-more (n + 1) m lines line (d .after) (omega (arith, e)))
+    ∙ ap (λ (t : List ℕ). record { output = t; left = last .after }) (sym (append-assoc text (w .output) (lineWritten m (last .answer) (last .after .pool))))
+
+-- lines one after the other, so many of them: this is written, and they leave s
+pub record Gives (n : ℕ) (lines : List (List ℕ)) (s₀ : Replay) (text : List ℕ) (s : Replay) : Type 0 where
+  pub done : linesDone n lines s₀ ≡ record { output = text; left = s }
+
+pub gives-none : (n : ℕ) (input : List ℕ) (s : Replay) → Gives n (linesOf (take 0 input)) s [] s
+unfolding linesOf linesFrom linesDone
+gives-none n input s = record { done = refl }
+
+pub gives-more : {n m : ℕ} {lines all : List (List ℕ)} {s₀ s : Replay} {text : List ℕ} (line : List ℕ) → Gives n lines s₀ text s → all ≡ lines ++ (line ∷ []) → m ≡ n + length lines → Gives n all s₀ (text ++ lineWritten m (lineDone (callOf line) s .answer) (lineDone (callOf line) s .after .pool)) (lineDone (callOf line) s .after)
+gives-more {n} {m} {lines} {all} {s₀} {s} {text} line g a e =
     record {
-      whole = λ more. one more ∙ sym (append-assoc (linesOf a) (line ∷ []) (linesOf more)) ∙ ap (λ (x : List (List ℕ)). x ++ linesOf more) (sym now);
-      count = omega (arith, c .count, ap length now ∙ length-append (linesOf a) (line ∷ []));
+      done =
+          ap (λ (x : List (List ℕ)). linesDone n x s₀) a
+          ∙ done-more n m lines line s₀ e
+          ∙ ap (λ (w : Written). record { output = w .output ++ lineWritten m (lineDone (callOf line) (w .left) .answer) (lineDone (callOf line) (w .left) .after .pool); left = lineDone (callOf line) (w .left) .after }) (g .done);
+    }
+
+-- ---- how far they are done
+
+abbrev pub far : ℕ → ℕ → Reached
+far lines bytes = record { lines = lines; bytes = bytes }
+
+-- no room for a line
+pub reached-full : (most space : ℕ) (r : Reached) (lines : List (List ℕ)) (s : Replay) → space < room (s .pool) → reached most space r lines s ≡ r
+unfolding reached
+reached-full most space r [] s h = refl
+reached-full most space r (line ∷ lines) s h = rw (lt-leb (room (s .pool)) space h, and-false (leb (behind r line .bytes) most))
+
+-- a line that does not end within the bytes
+pub reached-open : (most space : ℕ) (r : Reached) (line : List ℕ) (lines : List (List ℕ)) (s : Replay) → most < behind r line .bytes → reached most space r (line ∷ lines) s ≡ r
+unfolding reached
+reached-open most space r line lines s h = rw (lt-leb (behind r line .bytes) most h)
+
+pub reached-more : (most space : ℕ) (r : Reached) (line : List ℕ) (lines : List (List ℕ)) (s : Replay) → behind r line .bytes ≤ most → room (s .pool) ≤ space → reached most space r (line ∷ lines) s ≡ reached most (space - length (lineWritten (r .lines + 1) (lineDone (callOf line) s .answer) (lineDone (callOf line) s .after .pool))) (behind r line) lines (lineDone (callOf line) s .after)
+unfolding reached
+reached-more most space r line lines s e h = rw (le-leb (behind r line .bytes) most e, le-leb (room (s .pool)) space h)
+
+-- the first `at` bytes of an input are done: where its other lines come to is where all come to
+pub record Reaches (space₀ lines₀ : ℕ) (input : List ℕ) (s₀ : Replay) (space lines at : ℕ) (s : Replay) : Type 0 where
+  pub on : (most : ℕ) → length input ≤ most → reached most space₀ (far lines₀ 0) (linesOf input) s₀ ≡ reached most space (far lines at) (linesOf (drop at input)) s
+
+pub reaches-none : (space lines : ℕ) (input : List ℕ) (s : Replay) → Reaches space lines input s (space - 0) lines 0 s
+reaches-none space lines input s =
+    let e : space ≡ space - 0 = omega arith in
+    record { on = λ most h. ap (λ (k : ℕ). reached most k (far lines 0) (linesOf input) s) e }
+
+pub reaches-line : {space₀ lines₀ : ℕ} {input : List ℕ} {s₀ : Replay} {space lines at end : ℕ} {s : Replay} → Reaches space₀ lines₀ input s₀ space lines at s → Until 10 input at end → end < length input → room (s .pool) ≤ space → Reaches space₀ lines₀ input s₀ (space - length (lineWritten (lines + 1) (lineDone (callOf (part input at (end - at))) s .answer) (lineDone (callOf (part input at (end - at))) s .after .pool))) (lines + 1) (end + 1) (lineDone (callOf (part input at (end - at))) s .after)
+reaches-line {space₀} {lines₀} {input} {s₀} {space} {lines} {at} {end} {s} g u h r =
+    let line : List ℕ = part input at (end - at) in
+    let d : LineDone = lineDone (callOf line) s in
+    let text : List ℕ = lineWritten (lines + 1) (d .answer) (d .after .pool) in
+    let rest : List (List ℕ) = linesOf (drop (end + 1) input) in
+    let next : at + (length line + 1) ≡ end + 1 = omega (arith, length-take-le (end - at) (drop at input) (omega (arith, length-drop at input, u .after, u .inside)), u .after) in
+    record {
+      on = λ most l.
+          g .on most l
+          ∙ ap (λ (x : List ℕ). reached most space (far lines at) (linesOf x) s) (cut-at u h)
+          ∙ ap (λ (x : List (List ℕ)). reached most space (far lines at) x s) (lines-cut line (drop (end + 1) input) (u .nowhere))
+          ∙ reached-more most space (far lines at) line rest s (omega (arith, next)) r
+          ∙ ap (λ (b : ℕ). reached most (space - length text) (far (lines + 1) b) rest (d .after)) next;
     }
 
 -- ---- what is done goes before what the rest gives

@@ -1,24 +1,21 @@
 -- How far lines have been done: what is written of them, and what is left of the input.
 use mathlib.Core.Path.{_≡_, refl, sym, ap, _∙_}
-use mathlib.Core.Bool.{true}
-use mathlib.Core.List.{List, _++_}
+use mathlib.Core.Bool.{Bool, true, false, cond}
+use mathlib.Core.List.{List, [], _∷_, _++_}
 use Prim.Native.Nat.{ℕ, _+_, _-_, _≤_, _<_}
 use native.Mathlib.Omega.{arith}
+use lib.Dec.{eqb}
 use lib.ListN.{length, take, drop, length-append, length-drop}
 use lib.Seq.{take-all, drop-drop, take-at, drop-at, length-take-le}
 use Rattle.rules.specs.declared.Answer.{Answer}
 use Rattle.rules.specs.Layout.{part, put}
 use Rattle.laws.specs.LayoutLaws.{length-put}
 use Rattle.rules.specs.Soundness.{every}
-use Rattle.rules.specs.Replay.{Replay, LineCall, LineDone, callOf, lineDone, lineWritten}
+use Rattle.rules.specs.Replay.{Replay, LineCall, LineDone, linesOf, callOf, lineDone, lineWritten, Reached, reached, reachedIn, room}
 use Rattle.printing.specs.Room.{line-most}
 use Rattle.scanning.specs.Until.{other, Until}
 use Rattle.replay.specs.Ready.{ReadyState, Runs}
-use Rattle.replay.specs.LineLaws.{Cut, cut-none, cut-line, Went, went-none, went-line}
-
--- the most that one line's output may take
-abbrev pub room : List ℕ → ℕ
-room pool = 160 + length pool
+use Rattle.replay.specs.LineLaws.{Cut, cut-none, cut-line, front-lines, Gives, gives-none, gives-more, far, reached-full, reached-open, Reaches, reaches-none, reaches-line, lines-open, Went, went-none, went-line}
 
 -- ---- one line done: what it leaves, and what is written of it at `at`
 
@@ -51,6 +48,11 @@ lined {n} {line} {s} {c} {a} {out} {at} {after} {out'} {end} e r o w h =
 
 -- from a state s₀ and the number lines₀ of lines before: `at` bytes of the input are done, `w` bytes of the output are written
 pub record Doing (s₀ : Replay) (lines₀ : ℕ) (input out₀ : List ℕ) (s : Replay) (lines at w : ℕ) (out : List ℕ) : Type 0 where
+  -- what is written and left is what the lines of these bytes give
+  pub gives : Gives (lines₀ + 1) (linesOf (take at input)) s₀ (take w out) s
+  -- and how far the other lines come is how far all come
+  pub reaches : Reaches (length out₀) lines₀ input s₀ (length out - w) lines at s
+  -- the other lines go on from there, whatever follows the input
   pub went : Went (lines₀ + 1) input s₀ (lines + 1) (drop at input) (take w out) s
   pub inside : at ≤ length input
   pub fits : w ≤ length out
@@ -60,14 +62,18 @@ pub record Doing (s₀ : Replay) (lines₀ : ℕ) (input out₀ : List ℕ) (s :
   pub moves : at ≡ 0 → w ≡ 0
   pub counted : lines ≤ lines₀ + at
 
--- and no line is left that could be done: where there is room for another, the rest of the input has no end of a line
+-- and no line is left that could be done
 pub record Done (s₀ : Replay) (lines₀ : ℕ) (input out₀ : List ℕ) (s : Replay) (lines at w : ℕ) (out : List ℕ) : Type 0 where
   pub doing : Doing s₀ lines₀ input out₀ s lines at w out
+  pub far-is : far lines at ≡ reachedIn (length out₀) lines₀ input s₀
+  -- where there is room for another line, the rest of the input has no end of one
   pub stops : w + room (s .pool) ≤ length out → every (other 10) (drop at input) ≡ true
 
 pub doing-none : {s₀ : Replay} {lines₀ : ℕ} {input out₀ : List ℕ} → ReadyState s₀ → Doing s₀ lines₀ input out₀ s₀ lines₀ 0 0 out₀
 doing-none {s₀} {lines₀} {input} {out₀} r =
     record {
+      gives = gives-none (lines₀ + 1) input s₀;
+      reaches = reaches-none (length out₀) lines₀ input s₀;
       went = went-none (lines₀ + 1) input s₀;
       inside = omega arith;
       fits = omega arith;
@@ -98,18 +104,31 @@ kept-line out₀ {n} {line} {s} {out} {w} {after} {out'} {w'} l k =
     let past : w + (w' - w) ≡ w' = omega (arith, l .end-is) in
     tail ∙ ap (λ (m : ℕ). drop m out) (sym past) ∙ sym (drop-drop (w' - w) w out) ∙ ap (drop (w' - w)) k ∙ drop-drop (w' - w) w out₀ ∙ ap (λ (m : ℕ). drop m out₀) past
 
+-- the last line of an input, where it has no end, does not end within its bytes
+last-open : (space lines at : ℕ) (input : List ℕ) (s : Replay) → at ≤ length input → reached (length input) space (far lines at) (cond (eqb (length (drop at input)) 0) [] (drop at input ∷ [])) s ≡ far lines at
+unfolding reached
+last-open space lines at input s h = go (eqb (length (drop at input)) 0)
+  where
+    go : (b : Bool) → reached (length input) space (far lines at) (cond b [] (drop at input ∷ [])) s ≡ far lines at
+    go true = refl
+    go false = reached-open (length input) space (far lines at) (drop at input) [] s (omega (arith, length-drop at input))
+
 -- one line more
 module _ {s₀ : Replay} {lines₀ : ℕ} {input out₀ : List ℕ} {s : Replay} {lines at w : ℕ} {out : List ℕ} (g : Doing s₀ lines₀ input out₀ s lines at w out) where
-  pub doing-line : {end : ℕ} {after : Replay} {out' : List ℕ} {w' : ℕ} → Until 10 input at end → end < length input → Lined (lines + 1) (part input at (end - at)) s out w after out' w' → Doing s₀ lines₀ input out₀ after (lines + 1) (end + 1) w' out'
-  doing-line {end} {after} {out'} {w'} u h l =
+  pub doing-line : {end : ℕ} {after : Replay} {out' : List ℕ} {w' : ℕ} → Until 10 input at end → end < length input → w + room (s .pool) ≤ length out → Lined (lines + 1) (part input at (end - at)) s out w after out' w' → Doing s₀ lines₀ input out₀ after (lines + 1) (end + 1) w' out'
+  doing-line {end} {after} {out'} {w'} u h r l =
       let line : List ℕ = part input at (end - at) in
       let t : List ℕ = written (lines + 1) (doneLine line s) in
       let fits : w + length t ≤ length out = omega (arith, l .end-is, l .end-fits) in
+      let size : length out' ≡ length out = ap length (l .out-is) ∙ length-put out w t fits in
       let text : take w' out' ≡ take w out ++ t = ap (take w') (l .out-is) ∙ ap (λ (k : ℕ). take k (put out w t)) (l .end-is) ∙ take-put out w t fits in
+      let space : length out' - w' ≡ (length out - w) - length t = omega (arith, size, l .end-is, fits) in
       record {
+        gives = rw (text, l .after-is) (gives-more line (g .gives) (front-lines (g .cut) (g .inside) u h) (omega (arith, g .cut .count)));
+        reaches = rw (space, l .after-is) (reaches-line (g .reaches) u h (omega (arith, r)));
         went = rw (text, l .after-is) (went-line (g .went) u h);
         inside = omega arith;
-        fits = omega (arith, ap length (l .out-is) ∙ length-put out w t fits);
+        fits = omega (arith, size);
         kept = kept-line out₀ l (g .kept);
         ready = l .ready;
         cut = cut-line (g .cut) (g .inside) u h;
@@ -119,12 +138,26 @@ module _ {s₀ : Replay} {lines₀ : ℕ} {input out₀ : List ℕ} {s : Replay}
 
   -- a rest with no end of a line
   pub doing-rest : {end : ℕ} → Until 10 input at end → length input ≤ end → Done s₀ lines₀ input out₀ s lines at w out
+  unfolding reachedIn
   doing-rest {end} u h =
+      let rest : List ℕ = drop at input in
+      let none : every (other 10) rest ≡ true = ap (every (other 10)) (sym (take-all (end - at) rest (omega (arith, length-drop at input)))) ∙ u .nowhere in
       record {
         doing = g;
-        stops = λ r. ap (every (other 10)) (sym (take-all (end - at) (drop at input) (omega (arith, length-drop at input)))) ∙ u .nowhere;
+        far-is =
+            sym
+            (g .reaches .on (length input) (omega arith)
+            ∙ ap (λ (x : List (List ℕ)). reached (length input) (length out - w) (far lines at) x s) (lines-open rest none)
+            ∙ last-open (length out - w) lines at input s (g .inside));
+        stops = λ r. none;
       }
 
   -- no room for another line
   pub doing-full : length out < w + room (s .pool) → Done s₀ lines₀ input out₀ s lines at w out
-  doing-full f = record { doing = g; stops = λ r. absurd (omega arith) }
+  unfolding reachedIn
+  doing-full f =
+      record {
+        doing = g;
+        far-is = sym (g .reaches .on (length input) (omega arith) ∙ reached-full (length input) (length out - w) (far lines at) (linesOf (drop at input)) s (omega (arith, f)));
+        stops = λ r. absurd (omega arith);
+      }

@@ -4,13 +4,13 @@ ghost use Prim.Native.Nat.{_+_, _≤_, _<_, _^_};
 ghost use lib.ListN.{length};
 ghost use Rattle.rules.specs.Layout.{put};
 ghost use Rattle.rules.specs.Calls.{getCall, deleteCall, storeCall};
-ghost use Rattle.rules.specs.Replay.{called, freshened};
+ghost use Rattle.rules.specs.Replay.{called, freshened, room};
 ghost use Rattle.rules.specs.declared.Operation.the-variants.{Set};
 ghost use Rattle.lines.specs.Saying.{said, Inside};
 ghost use Rattle.replay.specs.Front.{Ready, doneAs, state};
 ghost use Rattle.replay.specs.Ready.{Runs};
-ghost use Rattle.replay.specs.Progress.{Lined, Done, room};
-ghost use Rattle.replay.specs.Whole.{held, Behind, Replayed};
+ghost use Rattle.replay.specs.Progress.{Lined, Done};
+ghost use Rattle.replay.specs.Whole.{held, Behind, ReplayGives};
 use lines::Call;
 use rules::Answer;
 use rules::Check;
@@ -288,17 +288,28 @@ fn run_all(dir: &mut [u64], pool: &mut [u8], input: &[u8], out: &mut [u8]) -> Pr
     }
 }
 
-// Replays a whole input from a memory that no `fresh` has touched: the header, and a line of output for each line. It says how far it came, which is to the end where the output has room.
-pub fn replay(dir: &mut [u64], pool: &mut [u8], input: &[u8], out: &mut [u8]) -> Progress
-    requires { ⌜ 160 + room (now pool) ≤ length (now out) ⌝ }
-    ensures { λ r. ⌜ Replayed (now (input .entry)) (now (dir .entry)) (now (pool .entry)) (now (out .entry)) (state (r .cells) (now (dir .exit)) (now (pool .exit))) (r .lines) (r .consumed) (r .written) (now (out .exit)) ⌝ }
+// What replay answers: how far it came, or that the output has no room for the header and a line.
+pub enum ReplayAnswer {
+    Done(Progress),
+    OutputTooShort,
+}
+
+// Replays a whole input from a memory that no `fresh` has touched: the header, and a line of output for each line, to the end of the input where the output has room. An output that is too short for the header and one line is refused, and nothing changes.
+pub fn replay(dir: &mut [u64], pool: &mut [u8], input: &[u8], out: &mut [u8]) -> ReplayAnswer
+    ensures { λ r. ⌜ ReplayGives (now (input .entry)) (now (dir .entry)) (now (pool .entry)) (now (out .entry)) r (now (dir .exit)) (now (pool .exit)) (now (out .exit)) ⌝ }
 {
+    if out.len() < 204 {
+        return ReplayAnswer::OutputTooShort; // 44 bytes of header, 160 of a line
+    }
+    if out.len() - 204 < pool.len() {
+        return ReplayAnswer::OutputTooShort; // a text may be as long as the pool
+    }
     let begun = printing::write_header(out);
     let p = run_all(dir, pool, input, &mut out[begun..]);
-    Progress {
+    ReplayAnswer::Done(Progress {
         cells: p.cells,
         lines: p.lines,
         consumed: p.consumed,
         written: begun + p.written,
-    }
+    })
 }
