@@ -1,6 +1,6 @@
 -- A call's result handed to another language. A signed argument reaches the call as its bits, which is the same number.
 use mathlib.Core.Path.{_≡_, ap, _∙_}
-use mathlib.Core.Bool.{Bool, true, false, cond}
+use mathlib.Core.Bool.{Bool, true, false}
 use mathlib.Core.List.{List}
 use Prim.Native.Nat.{ℕ}
 use lib.IntN.{ℤ}
@@ -12,7 +12,8 @@ use Rattle.rules.specs.declared.Operation.{Operation}
 use Rattle.rules.specs.declared.Initial.{Initial}
 use Rattle.rules.specs.declared.Initial.the-variants.{Given, Absent}
 use Rattle.rules.specs.Answer.{answerWords}
-use Rattle.rules.specs.Calls.{Result, gave, Exported, storeCall, incrCall, FlatListing, flatListing}
+use Rattle.rules.specs.Calls.{Result, gave, storeCall, incrCall, FlatListing, flatListing}
+use Rattle.rules.specs.Exports.{Exported, ExportedListing, initialOf}
 use Rattle.values.specs.Bits.{held}
 
 -- ---- any call, and the listing
@@ -24,11 +25,6 @@ handed e w =
       dir-words = ap (λ (x : Result). x .dir) e;
       pool-bytes = ap (λ (x : Result). x .pool) e;
     }
-
--- the answer as words, and the table
-pub record ExportedListing (l : FlatListing) (answer table : List ℕ) : Type 0 where
-  pub answer-words : answer ≡ answerWords (l .answer)
-  pub table-words : table ≡ l .table
 
 pub handed-listing : {l : FlatListing} {a : Answer} {words table : List ℕ} → flatListing a table ≡ l → words ≡ answerWords a → ExportedListing l words table
 handed-listing e w =
@@ -44,10 +40,6 @@ handed-store op dir pool clock key kind number text lifetime flags f e w =
     handed (e ∙ ap (λ (z : ℤ). storeCall op dir pool clock key kind z text lifetime flags) (toZ-ofZ {w = w64} f)) w
 
 -- ---- incr
-
--- the initial number, if there is one, and its lifetime
-unfoldable pub initialOf : Bool → ℤ → ℕ → Initial
-initialOf given number lifetime = cond given (Given number lifetime) Absent
 
 module _ (given : Bool) (number : ℤ) (lifetime : ℕ) where
   pub initial-given : SFits w64 number → given ≡ true → Given (held number) lifetime ≡ initialOf given number lifetime

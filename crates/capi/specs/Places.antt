@@ -9,17 +9,14 @@ use lib.ListN.{length, getD, length-take, length-drop}
 use borrow.Author.Tests.{le-leb, lt-leb}
 use Rattle.rules.specs.declared.Entry.{Entry}
 use Rattle.rules.specs.declared.Found.{Found}
-use Rattle.rules.specs.declared.Found.the-variants.{Live, Dead, Missing}
-use Rattle.rules.specs.Layout.{entriesOf, none, part, valueOffset, Memory, entryIn, memoryOf}
+use Rattle.rules.specs.declared.Found.the-variants.{Live}
+use Rattle.rules.specs.Layout.{entriesOf, none, part, valueOffset, memoryOf}
 use Rattle.rules.specs.Checks.{keyChecks}
 use Rattle.rules.specs.Calls.{bytesStart, bytesAtCall, showFound}
+use Rattle.rules.specs.Exports.{bytesPlace, textPlace, showPlace}
 use Rattle.laws.specs.Meant.{NoLive, else-is}
 
 -- ---- bytes_at
-
--- where the part begins, and its length
-unfoldable pub bytesPlace : List ℕ → ℕ → ℕ → List ℕ
-bytesPlace pool offset size = bytesStart pool offset size ∷ length (bytesAtCall pool offset size) ∷ []
 
 module _ (pool : List ℕ) (offset size : ℕ) where
   -- "a sum past its end gives the empty part at its start"
@@ -39,17 +36,6 @@ module _ (pool : List ℕ) (offset size : ℕ) where
       simp t (ap (λ (n : ℕ). offset ∷ n ∷ []) (sym (part-size h)))
 
 -- ---- show
-
--- 1, where the text begins and its length; or three times 0 where the notice is to be shown
-unfoldable pub textPlace : Memory → Found → List ℕ
-textPlace m (Live i) = 1 ∷ valueOffset (entryIn m i) ∷ entryIn m i .vlen ∷ []
-textPlace m (Dead i) = 0 ∷ 0 ∷ 0 ∷ []
-textPlace m Missing = 0 ∷ 0 ∷ 0 ∷ []
-
--- by the text that show finds, as its bytes are in `showCall`
-unfoldable pub showPlace : List ℕ → List ℕ → ℕ → List ℕ → List ℕ
-showPlace dir pool clock key =
-    textPlace (memoryOf dir pool) (showFound (keyChecks dir pool clock key) clock key (memoryOf dir pool))
 
 module _ (clock : ℕ) (dir pool key : List ℕ) (f : Found) (e : f ≡ showFound (keyChecks dir pool clock key) clock key (memoryOf dir pool)) where
   pub show-nowhere : NoLive f → _≡_ {A = List ℕ} (0 ∷ 0 ∷ 0 ∷ []) (showPlace dir pool clock key)

@@ -17,10 +17,9 @@ use Rattle.rules.specs.Layout.{entriesOf, none, part, valueOffset, valueBytes, 
 use Rattle.rules.specs.LookUp.{lookUp}
 use Rattle.rules.specs.Soundness.{sound}
 use Rattle.rules.specs.Checks.{keyChecks}
-use Rattle.rules.specs.Calls.{bytesStart, bytesAtCall, textFound, showFound, textOr, showCall}
+use Rattle.rules.specs.Calls.{bytesStart, bytesAtCall, textFound, showFound, textOr, showCall, lentFrom, showStart}
 use Rattle.laws.specs.ChecksLaws.{key-passed}
 use Rattle.laws.specs.Buffers.{entry-inside}
-use Rattle.reading.specs.Origin.{lentFrom, showStart}
 use Rattle.laws.specs.Meant.{NoLive, else-is, live-there}
 
 -- ---- bytes_at: the bytes, and where they stand for a pool that begins at `origin`

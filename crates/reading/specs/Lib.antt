@@ -1,4 +1,3 @@
 pub mod Readable
-pub mod Origin
 pub mod Answering
 pub mod Lent

@@ -246,7 +246,7 @@ pub fn run(
     }
     Progress {
         cells: used,
-        lines: n,
+        lines: n, // in all
         consumed: at,
         written: w,
     }

@@ -27,7 +27,7 @@ use Rattle.rules.specs.Time.{dead, expiryOf, timeLeft, withExpiry}
 use Rattle.rules.specs.LookUp.{lookUp}
 use Rattle.rules.specs.Recency.{line, sweepCount, sweep, gone, anyLive}
 use Rattle.rules.specs.Place.{Placed, run}
-use Rattle.rules.specs.Answer.{plain, marked, answerWords}
+use Rattle.rules.specs.Answer.{plain, marked}
 use Rattle.rules.specs.Checks.{checkLengths, checkSound, clockChecks, keyChecks, expireChecks, storeChecks, incrChecks}
 
 -- ---- what a call gives
@@ -46,12 +46,6 @@ pub record Result : Type 0 where
 -- a call that gave this answer and left these words and bytes
 abbrev pub gave : Answer → List ℕ → List ℕ → Result
 gave answer dir pool = record { answer = answer; dir = dir; pool = pool }
-
--- a call's result handed to another language: the answer as words, the directory and the pool
-pub record Exported (r : Result) (answer dir pool : List ℕ) : Type 0 where
-  pub answer-words : answer ≡ answerWords (r .answer)
-  pub dir-words : dir ≡ r .dir
-  pub pool-bytes : pool ≡ r .pool
 
 -- work that ran no rounds
 abbrev pub did : Outcome → ℕ → Memory → Work
@@ -474,3 +468,13 @@ textOr notice m Missing = notice
 unfoldable pub showCall : List ℕ → List ℕ → ℕ → List ℕ → List ℕ → List ℕ
 showCall dir pool clock key notice =
     textOr notice (memoryOf dir pool) (showFound (keyChecks dir pool clock key) clock key (memoryOf dir pool))
+
+-- "whichever slice holds it": where the slice that is lent begins, inside the caller's own pool or where the caller's own notice does. A place is a block and an offset in it, as a slice's `ptr`
+unfoldable pub lentFrom : ℕ × ℕ → ℕ × ℕ → Memory → Found → ℕ × ℕ
+lentFrom pool notice m (Live i) = (pool .0, valueOffset (entryIn m i) + pool .1)
+lentFrom pool notice m (Dead i) = notice
+lentFrom pool notice m Missing = notice
+
+unfoldable pub showStart : List ℕ → List ℕ → ℕ → List ℕ → ℕ × ℕ → ℕ × ℕ → ℕ × ℕ
+showStart dir pool clock key origin notice =
+    lentFrom origin notice (memoryOf dir pool) (showFound (keyChecks dir pool clock key) clock key (memoryOf dir pool))

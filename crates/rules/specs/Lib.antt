@@ -7,6 +7,7 @@ pub mod Soundness
 pub mod Answer
 pub mod Checks
 pub mod Calls
+pub mod Exports
 pub mod LeastLoss
 pub mod Replay
 pub mod Forced
