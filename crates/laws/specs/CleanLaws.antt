@@ -12,6 +12,7 @@ use Rattle.rules.specs.Place.{held}
 use Rattle.rules.specs.Soundness.{sound, rightLengths}
 use Rattle.rules.specs.Calls.{freshWork, freshCall}
 use Rattle.rules.specs.Checks.{checkLengths}
+use Rattle.rules.specs.Sequences.{Call, fresh, Buffers, resultOf, step, steps}
 use Rattle.rules.specs.Clean.{GivesUpZero, Clean}
 use Rattle.laws.specs.CallsLaws.{call-passed}
 use Rattle.laws.specs.SoundMemory.{SoundMemory, few}
@@ -19,7 +20,7 @@ use Rattle.laws.specs.Kept.{Kept}
 use Rattle.laws.specs.Keys.{sound-kept, Audited}
 use Rattle.laws.specs.Lists.{each-map, each-of}
 use Rattle.laws.specs.Carry.{Carries, sound-carries, audit-carries}
-use Rattle.laws.specs.Steps.{Call, fresh, Buffers, step, steps, emptied, empty-sound, step-kept, steps-kept, fresh-passed, fresh-audit}
+use Rattle.laws.specs.Steps.{emptied, empty-sound, step-kept, steps-kept, fresh-passed, fresh-audit}
 use Rattle.laws.specs.ZeroBytes.{Extent, inCells, whole-cells, inBytes, contents, free-beside, beside-free, Zeros, zeros-remove, zeros-front, zeros-expire, zeros-expire-all, zeros-overwrite, zeros-add, zeros-place}
 
 zeros-read : (n b : ℕ) → getD {A = ℕ} (replicate n 0) b 0 ≡ 0
@@ -81,7 +82,7 @@ gives-up-zero c b t =
 
 -- make fresh zeroes the whole pool
 fresh-pool : (b : Buffers) → rightLengths (b .dir) (b .pool) ≡ true → step fresh b .pool ≡ replicate (length (b .pool)) 0
-unfolding step freshCall freshWork memoryOf
+unfolding step resultOf freshCall freshWork memoryOf
 fresh-pool b t = rw (call-passed (checkLengths (b .dir) (b .pool)) (b .dir) (b .pool) freshWork (fresh-passed (b .dir) (b .pool) t))
 
 -- from a fresh memory on, whatever calls follow: nothing but keys and values

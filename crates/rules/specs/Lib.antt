@@ -8,6 +8,7 @@ pub mod Answer
 pub mod Checks
 pub mod Calls
 pub mod LeastLoss
+pub mod Sequences
 pub mod Replay
 pub mod Forced
 pub mod Spared
