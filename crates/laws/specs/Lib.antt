@@ -25,6 +25,7 @@ pub mod Keys
 pub mod Carry
 pub mod Steps
 pub mod Refusing
+pub mod InOrder
 pub mod RunIs
 pub mod Demand
 pub mod Cost

@@ -1,10 +1,14 @@
--- Calls one after the other on the same buffers: those that may change a memory, and what each gives and leaves.
+-- Calls one after the other on the same buffers: those that may change a memory, what each gives and leaves, and what is in order after a refused one.
+use mathlib.Core.Path.{_≡_}
 use mathlib.Core.List.{List, [], _∷_}
 use Prim.Native.Nat.{ℕ, _^_, _<_}
+use lib.ListN.{length}
 use lib.IntN.{ℤ}
+use Rattle.rules.specs.declared.Entry.{Entry}
 use Rattle.rules.specs.declared.Answer.{Answer}
 use Rattle.rules.specs.declared.Operation.{Operation}
 use Rattle.rules.specs.declared.Initial.{Initial}
+use Rattle.rules.specs.Layout.{keyOf, valueBytes, Memory, entryIn}
 use Rattle.rules.specs.Calls.{Result, freshCall, getCall, storeCall, deleteCall, incrCall, expireCall, flushAllCall, flushExpiredCall}
 
 -- ---- calls
@@ -51,3 +55,17 @@ step c b = buffers (resultOf c b)
 unfoldable pub steps : List Call → Buffers → Buffers
 steps [] b = b
 steps (c ∷ cs) b = steps cs (step c b)
+
+-- ---- the use order
+
+-- fewer entries, in the same order
+pub data Sub : List Entry → List Entry → Type 0 where
+  end : Sub [] []
+  skip : {e : Entry} {xs ys : List Entry} → Sub xs ys → Sub xs (e ∷ ys)
+  keep : {e : Entry} {xs ys : List Entry} → Sub xs ys → Sub (e ∷ xs) (e ∷ ys)
+
+-- "a refused call never moves an entry in the use order": entries may have gone, and each that stays has the record, the key and the value that it had, in the same order
+pub record InOrder (before after : Memory) : Type 0 where
+  pub order : Sub (after .entries) (before .entries)
+  pub keys : (i : ℕ) → i < length (after .entries) → keyOf (after .pool) (entryIn after i) ≡ keyOf (before .pool) (entryIn after i)
+  pub values : (i : ℕ) → i < length (after .entries) → valueBytes (after .pool) (entryIn after i) ≡ valueBytes (before .pool) (entryIn after i)
