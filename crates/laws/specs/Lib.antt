@@ -37,4 +37,5 @@ pub mod ForcedLaws
 pub mod Anew
 pub mod SparedLaws
 pub mod ZeroBytes
+pub mod TakenOutLaws
 pub mod CleanLaws
