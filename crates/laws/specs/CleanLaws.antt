@@ -3,15 +3,15 @@ use mathlib.Core.Path.{_≡_, sym, ap, _∙_}
 use mathlib.Core.Bool.{true, true≢false}
 use mathlib.Core.List.{List, _∷_}
 use mathlib.Core.Logic.{⊎-elim, inl, inr}
-use Prim.Native.Nat.{ℕ, _+_, _*_, _/_, _<_}
+use Prim.Native.Nat.{ℕ, _+_, _*_, _/_}
 use native.Mathlib.Omega.{arith}
-use native.Mathlib.Decide.{decLt}
-use lib.ListN.{length, getD, replicate, length-replicate, getD-replicate, List·getD-eq-default}
+use lib.ListN.{length, getD, replicate}
 use Rattle.rules.specs.Layout.{cellsOf, Memory, memoryOf}
 use Rattle.rules.specs.Place.{held}
 use Rattle.rules.specs.Soundness.{sound, rightLengths}
 use Rattle.rules.specs.Calls.{freshWork, freshCall}
 use Rattle.rules.specs.Checks.{checkLengths}
+use Rattle.rules.specs.Sequences.{Call, fresh, Buffers, resultOf, step, steps}
 use Rattle.rules.specs.Clean.{GivesUpZero, Clean}
 use Rattle.laws.specs.CallsLaws.{call-passed}
 use Rattle.laws.specs.SoundMemory.{SoundMemory, few}
@@ -19,15 +19,9 @@ use Rattle.laws.specs.Kept.{Kept}
 use Rattle.laws.specs.Keys.{sound-kept, Audited}
 use Rattle.laws.specs.Lists.{each-map, each-of}
 use Rattle.laws.specs.Carry.{Carries, sound-carries, audit-carries}
-use Rattle.laws.specs.Steps.{Call, fresh, Buffers, step, steps, emptied, empty-sound, step-kept, steps-kept, fresh-passed, fresh-audit}
-use Rattle.laws.specs.ZeroBytes.{Extent, inCells, whole-cells, inBytes, contents, free-beside, beside-free, Zeros, zeros-remove, zeros-front, zeros-expire, zeros-expire-all, zeros-overwrite, zeros-add, zeros-place}
-
-zeros-read : (n b : ℕ) → getD {A = ℕ} (replicate n 0) b 0 ≡ 0
-zeros-read n b = go (decLt b n)
-  where
-    go : Dec (b < n) → getD {A = ℕ} (replicate n 0) b 0 ≡ 0
-    go (yes l) = getD-replicate n b 0 0 l
-    go (no l) = List·getD-eq-default (replicate n 0) 0 {n = b} (omega (arith, length-replicate {A = ℕ} n 0))
+use Rattle.laws.specs.Steps.{emptied, empty-sound, step-kept, steps-kept, fresh-passed, fresh-audit}
+use Rattle.laws.specs.TakenOutLaws.{taken-out-zero}
+use Rattle.laws.specs.ZeroBytes.{Extent, inCells, whole-cells, inBytes, contents, free-beside, beside-free, zeros-read, Zeros, zeros-remove, zeros-front, zeros-expire, zeros-expire-all, zeros-overwrite, zeros-add, zeros-place}
 
 module _ (size : ℕ → ℕ) (x : Extent size) (P : ℕ) (Watched : ℕ → Type 0) where
   -- a sound memory and its watched bytes
@@ -77,11 +71,12 @@ gives-up-zero c b t =
       zero = λ k w f j l.
           let q : k ≡ (32 * k + j) / 32 = omega arith in
           after .inv .zeros (32 * k + j) (ap (held (m .entries)) (sym q) ∙ w) (free-beside _ k j l f);
+      rest = taken-out-zero c b t;
     }
 
 -- make fresh zeroes the whole pool
 fresh-pool : (b : Buffers) → rightLengths (b .dir) (b .pool) ≡ true → step fresh b .pool ≡ replicate (length (b .pool)) 0
-unfolding step freshCall freshWork memoryOf
+unfolding step resultOf freshCall freshWork memoryOf
 fresh-pool b t = rw (call-passed (checkLengths (b .dir) (b .pool)) (b .dir) (b .pool) freshWork (fresh-passed (b .dir) (b .pool) t))
 
 -- from a fresh memory on, whatever calls follow: nothing but keys and values

@@ -23,7 +23,7 @@ use Rattle.rules.specs.declared.Initial.{Initial}
 use Rattle.rules.specs.declared.Initial.the-variants.{Given, Absent}
 use Rattle.rules.specs.Layout.{cellsOf, Memory, entryIn, remove, removeOldest, moveToFront, numberAt}
 use Rattle.rules.specs.Time.{dead, withExpiry}
-use Rattle.rules.specs.LookUp.{lookUp}
+use Rattle.rules.specs.LookUp.{lookUp, Means}
 use Rattle.rules.specs.Recency.{line, left, gone, sweepCount, sweep}
 use Rattle.rules.specs.Place.{held, Placed, run}
 use Rattle.laws.specs.PlaceLaws.{RanBy, run-ran}
@@ -32,7 +32,7 @@ use Rattle.laws.specs.LeastLossLaws.{after-rounds}
 use Rattle.rules.specs.Calls.{did, Item, itemOf, needFor, placeAt, overwriteAt, addAt, expireAt, sameLength, afterSweep, getFound, getWork, deleteFound, deleteWork, searched, isPlaced, ifRoom, evicted, placeFit, placedBy, placeAnew, storeOver, storeItem, mostRounds, admits, storeAdmitted, storeFound, storeWork, inRange, incrLive, incrNew, incrInitial, incrFound, incrWork, expireFound, flushAllWork, flushed, upTo, flushExpiredWork}
 use Rattle.laws.specs.Lists.{Each}
 use Rattle.laws.specs.Bytes.{FineItem}
-use Rattle.laws.specs.Finding.{Other, Means, Finds, finds}
+use Rattle.laws.specs.Finding.{Other, Finds, finds}
 
 -- Inv of memories of P cells is kept; Open says that a new entry may come under a key
 pub record Kept (P : ℕ) (Inv : Memory → Type 0) (Open : List ℕ → Memory → Type 0) : Type 0 where

@@ -25,6 +25,7 @@ pub mod Keys
 pub mod Carry
 pub mod Steps
 pub mod Refusing
+pub mod InOrder
 pub mod RunIs
 pub mod Demand
 pub mod Cost
@@ -36,4 +37,5 @@ pub mod ForcedLaws
 pub mod Anew
 pub mod SparedLaws
 pub mod ZeroBytes
+pub mod TakenOutLaws
 pub mod CleanLaws

@@ -12,10 +12,11 @@ use Rattle.laws.specs.LayoutLaws.{length-encode}
 use Rattle.rules.specs.Soundness.{sound, rightLengths}
 use Rattle.rules.specs.Checks.{_then_, refuse, checkLengths, checkSound, clockChecks, keyChecks, expireChecks, storeChecks, incrChecks}
 use Rattle.rules.specs.Calls.{call, freshCall, freshWork, getCall, deleteCall, storeCall, incrCall, expireCall, flushAllCall, flushExpiredCall}
+use Rattle.rules.specs.Sequences.{Call, fresh, get, store, delete, incr, expire, flush-all, flush-expired, Buffers, resultOf, step}
 use Rattle.laws.specs.SoundMemory.{SoundMemory}
 use Rattle.laws.specs.SoundnessLaws.{lengths-are}
 use Rattle.laws.specs.Carry.{Carries, sound-carries}
-use Rattle.laws.specs.Steps.{Call, fresh, get, store, delete, incr, expire, flush-all, flush-expired, Buffers, step, carries-step}
+use Rattle.laws.specs.Steps.{carries-step}
 
 abbrev pub NotFresh : Call → Type 0
 NotFresh fresh = ⊥
@@ -28,7 +29,7 @@ NotFresh flush-all = Unit {0}
 NotFresh (flush-expired clock maximum) = Unit {0}
 
 pub not-sound : (c : Call) (b : Buffers) → NotFresh c → sound (b .dir) (b .pool) ≡ false → step c b ≡ b
-unfolding step getCall storeCall deleteCall incrCall expireCall flushAllCall flushExpiredCall call storeChecks incrChecks expireChecks keyChecks clockChecks checkSound refuse _then_
+unfolding step resultOf getCall storeCall deleteCall incrCall expireCall flushAllCall flushExpiredCall call storeChecks incrChecks expireChecks keyChecks clockChecks checkSound refuse _then_
 not-sound fresh b n t = absurd n
 not-sound (get clock key) b n t = rw t
 not-sound (store op clock key kind number text lifetime flags f) b n t = rw t
@@ -63,7 +64,7 @@ fresh-lengths dir pool = go (rightLengths dir pool) refl
     go false t = (refl, refl)
 
 pub same-lengths : (c : Call) (b : Buffers) → SameLengths b (step c b)
-unfolding step
+unfolding step resultOf
 same-lengths fresh b = fresh-lengths (b .dir) (b .pool)
 same-lengths (get clock key) b = by-soundness (get clock key) b tt
 same-lengths (store op clock key kind number text lifetime flags f) b = by-soundness (store op clock key kind number text lifetime flags f) b tt

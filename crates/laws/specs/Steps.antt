@@ -1,4 +1,4 @@
--- Sequences of calls.
+-- What each call keeps, and so sequences of calls.
 use mathlib.Core.Path.{_≡_, _∙_}
 use mathlib.Core.Bool.{true}
 use mathlib.Core.List.{List, [], _∷_}
@@ -14,7 +14,8 @@ use Rattle.rules.specs.Time.{expiryOf}
 use Rattle.rules.specs.LookUp.{lookUp}
 use Rattle.rules.specs.Soundness.{sound, audit, rightLengths}
 use Rattle.rules.specs.Checks.{refuse, checkLengths, checkSound, clockChecks, keyChecks, expireChecks, storeChecks, incrChecks}
-use Rattle.rules.specs.Calls.{Result, itemOf, freshWork, freshCall, getWork, getCall, deleteWork, deleteCall, storeWork, storeCall, incrWork, incrCall, expireFound, expireCall, flushAllWork, flushAllCall, flushExpiredWork, flushExpiredCall}
+use Rattle.rules.specs.Calls.{itemOf, freshWork, freshCall, getWork, getCall, deleteWork, deleteCall, storeWork, storeCall, incrWork, incrCall, expireFound, expireCall, flushAllWork, flushAllCall, flushExpiredWork, flushExpiredCall}
+use Rattle.rules.specs.Sequences.{Call, fresh, get, store, delete, incr, expire, flush-all, flush-expired, Buffers, resultOf, step, steps}
 use Rattle.laws.specs.CallsLaws.{call-passed}
 use Rattle.laws.specs.SoundnessLaws.{Lengths, lengths-are}
 use Rattle.laws.specs.Lists.{Each, nil, none-yet}
@@ -24,41 +25,6 @@ use Rattle.laws.specs.Kept.{Kept, get-kept, delete-kept, store-kept, inc
 use Rattle.laws.specs.Keys.{Audited, sound-kept, audited-kept}
 use Rattle.laws.specs.Carry.{Carries, carries-encode, carries-call, sound-carries, carries-sound, audit-carries, carries-audit, store-fine, incr-fine}
 
--- ---- one call
-
--- a call that may change the memory, with its arguments ("Flags are a 32-bit argument")
-pub data Call : Type 0 where
-  fresh : Call
-  get : (clock : ℕ) (key : List ℕ) → Call
-  store : (op : Operation) (clock : ℕ) (key : List ℕ) (kind : ℕ) (number : ℤ) (text : List ℕ) (lifetime flags : ℕ) → flags < 2 ^ 32 → Call
-  delete : (clock : ℕ) (key : List ℕ) → Call
-  incr : (clock : ℕ) (key : List ℕ) (by : ℤ) (initial : Initial) → Call
-  expire : (clock : ℕ) (key : List ℕ) (lifetime : ℕ) → Call
-  flush-all : Call
-  flush-expired : (clock maximum : ℕ) → Call
-
-pub record Buffers : Type 0 where
-  pub dir : List ℕ
-  pub pool : List ℕ
-
-abbrev pub buffers : Result → Buffers
-buffers r = record { dir = r .dir; pool = r .pool }
-
-unfoldable pub step : Call → Buffers → Buffers
-step fresh b = buffers (freshCall (b .dir) (b .pool))
-step (get clock key) b = buffers (getCall (b .dir) (b .pool) clock key)
-step (store op clock key kind number text lifetime flags f) b = buffers (storeCall op (b .dir) (b .pool) clock key kind number text lifetime flags)
-step (delete clock key) b = buffers (deleteCall (b .dir) (b .pool) clock key)
-step (incr clock key by initial) b = buffers (incrCall (b .dir) (b .pool) clock key by initial)
-step (expire clock key lifetime) b = buffers (expireCall (b .dir) (b .pool) clock key lifetime)
-step flush-all b = buffers (flushAllCall (b .dir) (b .pool))
-step (flush-expired clock maximum) b = buffers (flushExpiredCall (b .dir) (b .pool) clock maximum)
-
--- one after the other
-unfoldable pub steps : List Call → Buffers → Buffers
-steps [] b = b
-steps (c ∷ cs) b = steps cs (step c b)
-
 -- ---- what is kept
 
 -- what make fresh leaves
@@ -67,7 +33,7 @@ emptied m = record { entries = []; pool = replicate (length (m .pool)) 0 }
 
 module _ (P : ℕ) (Inv : Memory → Type 0) (Open : List ℕ → Memory → Type 0) (k : Kept P Inv Open) (fewer : (m : Memory) → Inv m → length (m .entries) ≤ P) (empty : (m : Memory) → Inv m → Inv (emptied m)) where
   pub step-kept : (c : Call) (b : Buffers) → Carries Inv P (b .dir) (b .pool) → Carries Inv P (step c b .dir) (step c b .pool)
-  unfolding step freshCall freshWork getCall storeCall deleteCall incrCall expireCall flushAllCall flushExpiredCall
+  unfolding step resultOf freshCall freshWork getCall storeCall deleteCall incrCall expireCall flushAllCall flushExpiredCall
   step-kept fresh b h = carries-call P (checkLengths (b .dir) (b .pool)) freshWork (b .dir) (b .pool) fewer h (λ e i. empty (memoryOf (b .dir) (b .pool)) i)
   step-kept (get clock key) b h =
       carries-call P (keyChecks (b .dir) (b .pool) clock key) (getWork clock key) (b .dir) (b .pool) fewer h (λ e i. get-kept P Inv Open k clock key (memoryOf (b .dir) (b .pool)) i)
@@ -130,7 +96,7 @@ fresh-passed dir pool t = rw t
 
 -- make fresh gives such a memory, of any contents of the right lengths
 pub fresh-audit : (b : Buffers) → rightLengths (b .dir) (b .pool) ≡ true → audit (step fresh b .dir) (step fresh b .pool) ≡ true
-unfolding step freshCall freshWork memoryOf
+unfolding step resultOf freshCall freshWork memoryOf
 fresh-audit b t =
     let l : Lengths (b .dir) (b .pool) = lengths-are (b .dir) (b .pool) t in
     let P : ℕ = cellsOf (b .pool) in
@@ -151,33 +117,33 @@ module _ (dir pool : List ℕ) (t : sound dir pool ≡ true) where
   given = record { dir = dir; pool = pool }
 
   pub fresh-sound : sound (freshCall dir pool .dir) (freshCall dir pool .pool) ≡ true
-  unfolding step
+  unfolding step resultOf
   fresh-sound = sound-step fresh given t
 
   pub get-sound : (clock : ℕ) (key : List ℕ) → sound (getCall dir pool clock key .dir) (getCall dir pool clock key .pool) ≡ true
-  unfolding step
+  unfolding step resultOf
   get-sound clock key = sound-step (get clock key) given t
 
   pub store-sound : (op : Operation) (clock : ℕ) (key : List ℕ) (kind : ℕ) (number : ℤ) (text : List ℕ) (lifetime flags : ℕ) → flags < 2 ^ 32 → sound (storeCall op dir pool clock key kind number text lifetime flags .dir) (storeCall op dir pool clock key kind number text lifetime flags .pool) ≡ true
-  unfolding step
+  unfolding step resultOf
   store-sound op clock key kind number text lifetime flags f = sound-step (store op clock key kind number text lifetime flags f) given t
 
   pub delete-sound : (clock : ℕ) (key : List ℕ) → sound (deleteCall dir pool clock key .dir) (deleteCall dir pool clock key .pool) ≡ true
-  unfolding step
+  unfolding step resultOf
   delete-sound clock key = sound-step (delete clock key) given t
 
   pub incr-sound : (clock : ℕ) (key : List ℕ) (by : ℤ) (initial : Initial) → sound (incrCall dir pool clock key by initial .dir) (incrCall dir pool clock key by initial .pool) ≡ true
-  unfolding step
+  unfolding step resultOf
   incr-sound clock key by initial = sound-step (incr clock key by initial) given t
 
   pub expire-sound : (clock : ℕ) (key : List ℕ) (lifetime : ℕ) → sound (expireCall dir pool clock key lifetime .dir) (expireCall dir pool clock key lifetime .pool) ≡ true
-  unfolding step
+  unfolding step resultOf
   expire-sound clock key lifetime = sound-step (expire clock key lifetime) given t
 
   pub flush-all-sound : sound (flushAllCall dir pool .dir) (flushAllCall dir pool .pool) ≡ true
-  unfolding step
+  unfolding step resultOf
   flush-all-sound = sound-step flush-all given t
 
   pub flush-expired-sound : (clock maximum : ℕ) → sound (flushExpiredCall dir pool clock maximum .dir) (flushExpiredCall dir pool clock maximum .pool) ≡ true
-  unfolding step
+  unfolding step resultOf
   flush-expired-sound clock maximum = sound-step (flush-expired clock maximum) given t

@@ -129,18 +129,35 @@ pub record Plates : Type 0 where
   -- request 2: "Make fresh now zeroes the whole pool"; the sweep of P4 and the removal of P11, which answer 8 and 12, wipe too; the overwrite of P12 "wipes nothing"
   pub request2 : (fresh .pool ≡ replicate 128 0) × (getCall (stored .dir) (stored .pool) 1500 AB12 .pool ≡ replicate 128 0) × (text SafeSet full a 40 .pool ≡ put cells 0 (replicate 32 0)) × (number Set full b .pool ≡ put cells 33 (numberBytes (pos 9000)))
 
--- the replay example of 01: its two stores' and gets' answers, line by line
+-- ---- the replay example of 01
+
+-- a get on what a line has left
+abbrev getAfter : Result → ℕ → List ℕ → Result
+getAfter r clock key = getCall (r .dir) (r .pool) clock key
+
+-- its lines 3 to 5, each behind the one before; lines 1 and 2 are `fresh` and `stored`
+abbrev seen : Result
+seen = getAfter stored 1200 AB12
+
+abbrev expired : Result
+expired = getAfter seen 1500 AB12
+
+abbrev blank : Result
+blank = getAfter expired 1500 []
+
+-- the answers, line by line
 pub record Example : Type 0 where
   pub line1 : fresh .answer ≡ plain Done 0
   pub line2 : stored .answer ≡ plain Done 0
-  pub line3 : getCall (stored .dir) (stored .pool) 1200 AB12 .answer ≡ plain (Number 0 (pos 14200) 4) 0
-  pub line4 : getCall (stored .dir) (stored .pool) 1500 AB12 .answer ≡ plain NotFound 1
+  pub line3 : seen .answer ≡ plain (Number 0 (pos 14200) 4) 0
+  -- its cells are wiped
+  pub line4 : (expired .answer ≡ plain NotFound 1) × (expired .pool ≡ replicate 128 0)
   -- a blank key, after that: it matches nothing
-  pub line5 : getCall (fresh .dir) (stored .pool) 1500 [] .answer ≡ plain KeyEmpty 0
+  pub line5 : blank .answer ≡ plain KeyEmpty 0
 
 pub example : Example
 unfolding encode flat decode entriesOf without toFront put keyOf numberBytes numberAt memoryOf wiped remove removeOldest moveToFront dead expiryOf tooLate timeLeft same keyIs foundFrom lookUp deads after gone sweepCount sweep holds held freeRun fitFrom firstFree run every any rightLengths valueFits entrySound noneShared sound _then_ refuse checkLengths checkSound checkClock checkKey checkKind takesNil checkNil checkLifetime clockChecks keyChecks storeChecks call ask freshWork freshCall afterSweep shown getFound getWork getCall deleteFound entryFor placeAt rewriteAt overwriteAt searched isPlaced ifRoom evicted anyLive forcedBy fitOutcome placeFit placedBy placeAnew storeOver storeItem mostRounds admits booleanByte valueGiven storeAdmitted storeFound storeWork itemOf storeCall ttlFound ttlCall
-example = record { line1 = refl; line2 = refl; line3 = refl; line4 = refl; line5 = refl }
+example = record { line1 = refl; line2 = refl; line3 = refl; line4 = (refl, refl); line5 = refl }
 
 pub plates : Plates
 unfolding encode flat decode entriesOf without toFront put keyOf numberBytes numberAt memoryOf wiped remove removeOldest moveToFront dead expiryOf tooLate timeLeft same keyIs foundFrom lookUp deads after gone sweepCount sweep holds held freeRun fitFrom firstFree run every any rightLengths valueFits entrySound noneShared sound _then_ refuse checkLengths checkSound checkClock checkKey checkKind takesNil checkNil checkLifetime clockChecks keyChecks storeChecks call ask freshWork freshCall afterSweep shown getFound getWork getCall deleteFound entryFor placeAt rewriteAt overwriteAt searched isPlaced ifRoom evicted anyLive forcedBy fitOutcome placeFit placedBy placeAnew storeOver storeItem mostRounds admits booleanByte valueGiven storeAdmitted storeFound storeWork itemOf storeCall ttlFound ttlCall

@@ -25,11 +25,12 @@ use Rattle.laws.specs.Lists.{nil, none-yet}
 use Rattle.rules.specs.Answer.{plain}
 use Rattle.rules.specs.Checks.{refuse, checkLengths, storeChecks}
 use Rattle.rules.specs.Calls.{Result, Work, Does, call, gave, freshWork, freshCall, itemOf, storeWork, storeCall}
+use Rattle.rules.specs.Sequences.{Call, step}
 use Rattle.rules.specs.Replay.{Replay, LineDone, onFront, called, freshened, frontDir, frontPool}
 use Rattle.laws.specs.SoundMemory.{SoundMemory}
 use Rattle.laws.specs.CallsLaws.{gave-refused, gave-passed}
 use Rattle.laws.specs.Carry.{Carries, carries-encode, sound-carries, carries-sound}
-use Rattle.laws.specs.Steps.{Call, step, carries-step}
+use Rattle.laws.specs.Steps.{carries-step}
 
 abbrev pub state : ℕ → List ℕ → List ℕ → Replay
 state cells dir pool = record { cells = cells; dir = dir; pool = pool }

@@ -13,9 +13,9 @@ use Rattle.rules.specs.declared.Outcome.the-variants.{NotSound}
 use Rattle.rules.specs.declared.Operation.the-variants.{Set}
 use Rattle.rules.specs.Answer.{fieldsOf, plain}
 use Rattle.rules.specs.Calls.{Result, freshCall, storeCall, getCall, deleteCall}
+use Rattle.rules.specs.Sequences.{Call, get, store, delete, Buffers, buffers, resultOf, step}
 use Rattle.rules.specs.Replay.{Replay, LineCall, freshes, sets, gets, deletes, unreadable, LineDone, onFront, called, freshened, lineDone, frontDir, frontPool, answered}
 use Rattle.laws.specs.Booleans.{and-left, and-right}
-use Rattle.laws.specs.Steps.{Call, get, store, delete, Buffers, buffers, step}
 use Rattle.replay.specs.Front.{state, Front, Ready, untouched, in-use, pool-length, front-step, fresh-front}
 use Rattle.replay.specs.Texts.{Within, get-within, set-within, delete-within, fresh-within}
 
@@ -49,7 +49,7 @@ ready-fresh P s low high r = go (leb (2 + 6 * P) (length (s .dir)) && leb (32 * 
     go false e = rw e r
 
 pub ready-line : (c : LineCall) → FineCall c → (s : Replay) → ReadyState s → ReadyState (lineDone c s .after)
-unfolding lineDone step
+unfolding lineDone step resultOf
 ready-line (freshes P) (low, high) s r = ready-fresh P s low high r
 ready-line (sets clock key kind number text lifetime flags) f s r =
     ready-called (store Set clock key kind number text lifetime flags f) (λ dir pool. storeCall Set dir pool clock key kind number text lifetime flags) (λ d p. refl) (s .cells) (s .dir) (s .pool) r
@@ -74,7 +74,7 @@ text-called work w s = go (eqb (s .cells) 0)
     go false t = w (length (onFront (s .cells) work s .pool)) (frontDir (s .cells) s) (frontPool (s .cells) s) t
 
 text-get : (clock : ℕ) (key : List ℕ) (P : ℕ) (dir pool : List ℕ) → Ready P dir pool → Within (length (called (λ d p. getCall d p clock key) (state P dir pool) .after .pool)) (called (λ d p. getCall d p clock key) (state P dir pool) .answer .outcome)
-unfolding called onFront step fieldsOf
+unfolding called onFront step resultOf fieldsOf
 text-get clock key P dir pool (untouched z) = rw (eq-eqb P 0 z) (λ t. absurd (omega (arith, t)))
 text-get clock key P dir pool (in-use f) =
     let o : Outcome = getCall (take (2 + 6 * P) dir) (take (32 * P) pool) clock key .answer .outcome in

@@ -9,6 +9,7 @@ pub mod Checks
 pub mod Calls
 pub mod Exports
 pub mod LeastLoss
+pub mod Sequences
 pub mod Replay
 pub mod Forced
 pub mod Spared
