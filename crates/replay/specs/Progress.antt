@@ -14,7 +14,7 @@ use Rattle.rules.specs.Soundness.{every}
 use Rattle.rules.specs.Replay.{Replay, LineCall, LineDone, linesOf, callOf, lineDone, lineWritten, Reached, reached, reachedIn, room}
 use Rattle.printing.specs.Room.{line-most}
 use Rattle.scanning.specs.Until.{other, Until}
-use Rattle.replay.specs.Ready.{ReadyState, Runs}
+use Rattle.replay_calls.specs.Ready.{ReadyState, Runs}
 use Rattle.replay.specs.LineLaws.{Cut, cut-none, cut-line, front-lines, Gives, gives-none, gives-more, far, reached-full, reached-open, Reaches, reaches-none, reaches-line, lines-open, Went, went-none, went-line}
 
 -- ---- one line done: what it leaves, and what is written of it at `at`

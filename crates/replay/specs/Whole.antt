@@ -18,7 +18,7 @@ use Rattle.lines.specs.LineLaws.{too-long}
 use Rattle.replay.specs.declared.Progress.{Progress}
 use Rattle.replay.specs.declared.ReplayAnswer.{ReplayAnswer}
 use Rattle.replay.specs.declared.ReplayAnswer.the-variants as Told
-use Rattle.replay.specs.Front.{state}
+use Rattle.replay_calls.specs.Front.{state}
 use Rattle.replay.specs.LineLaws.{lines-plain, lines-cut, lines-open, before, Gives, gives-more, far, reached-full, reached-more}
 use Rattle.replay.specs.Progress.{Done, Lined, written, doneLine, take-put, kept-line}
 

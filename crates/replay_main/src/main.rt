@@ -2,7 +2,7 @@
 ghost use mathlib.Core.Bool.{true};
 ghost use Prim.Native.Nat.{_+_, _-_, _≤_, _<_, _^_};
 ghost use lib.ListN.{length};
-ghost use Rattle.replay.specs.Front.{Ready};
+ghost use Rattle.replay_calls.specs.Front.{Ready};
 ghost use Rattle.rules.specs.Replay.{room};
 use libc::STDIN_FILENO;
 use libc::STDOUT_FILENO;

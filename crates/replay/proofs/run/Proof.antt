@@ -1,5 +1,5 @@
 -- `replay::run` meets its contract. The loop's invariant: how far the lines are done, and that no length has changed.
-use Rattle.replay.specs.Front.{state}
+use Rattle.replay_calls.specs.Front.{state}
 use Rattle.replay.specs.Progress.{Doing, doing-none, doing-line, doing-rest, doing-full}
 use mathlib.Core.Path.{_≡_, refl}
 use Prim.Native.Nat.{_+_, _-_}

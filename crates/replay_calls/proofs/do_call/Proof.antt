@@ -1,11 +1,11 @@
--- `replay::do_call` meets its contract.
-use Rattle.replay.specs.Front.{state}
-use Rattle.replay.specs.Running.{fresh-inside, set-inside, get-inside, delete-inside, fresh-runs, set-runs, get-runs, delete-runs, unreadable-runs}
+-- `replay_calls::do_call` meets its contract.
+use Rattle.replay_calls.specs.Front.{state}
+use Rattle.replay_calls.specs.Running.{fresh-inside, set-inside, get-inside, delete-inside, fresh-runs, set-runs, get-runs, delete-runs, unreadable-runs}
 use mathlib.Core.Path.{refl}
 use native.Mathlib.Omega.{arith}
 use borrow.Author.Needs.{needs}
-use Rattle.replay.proofs.do_call.Statement.{statement}
-use Rattle.replay.proofs.do_call.Tie as tie
+use Rattle.replay_calls.proofs.do_call.Statement.{statement}
+use Rattle.replay_calls.proofs.do_call.Tie as tie
 
 enum-known-call : tie.Need-enum-known-call
 enum-known-call c = search needs

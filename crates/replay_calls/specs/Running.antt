@@ -19,7 +19,7 @@ use Rattle.rules.specs.Replay.{Replay, LineDone, called, freshened, lineDone}
 use Rattle.lines.specs.declared.Call.{Call}
 use Rattle.lines.specs.declared.Call.the-variants.{Fresh, Set, Get, Delete, Unreadable}
 use Rattle.lines.specs.Saying.{said, Inside}
-use Rattle.replay.specs.Ready.{ReadyState, Runs, runs}
+use Rattle.replay_calls.specs.Ready.{ReadyState, Runs, runs}
 
 module _ (line : List ℕ) (call : Call) (i : Inside line call) where
   pub fresh-inside : {n : ℕ} → call ≡ Fresh n → (1 ≤ n) × (n ≤ 1024)
