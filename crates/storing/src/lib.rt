@@ -8,7 +8,7 @@ ghost use Rattle.rules.specs.LookUp.{lookUp};
 ghost use Rattle.rules.specs.Soundness.{sound};
 ghost use Rattle.rules.specs.Calls.{Holds, Does, rewriteAt, placeAt, placeAnew, storeItem, storeOver, admits, mostRounds, storeFound, storeWork, itemOf, gave, storeCall};
 ghost use Rattle.rules.specs.Checks.{storeChecks};
-ghost use Rattle.rules.specs.LeastLoss.{StoreLosesLeast};
+ghost use Rattle.rules.specs.LeastLoss.{StoreLoses};
 ghost use Rattle.rules.specs.declared.Check.the-variants.{Passed};
 ghost use Rattle.rules.specs.declared.Outcome.the-variants.{Done};
 ghost use Rattle.rules.specs.declared.Operation.the-variants.{Set, SafeSet, Add, SafeAdd, Replace};
@@ -282,7 +282,7 @@ pub fn store(
     flags: u32,
 ) -> Answer
     ensures result { λ r. ⌜ gave r (now (dir .exit)) (now (pool .exit)) ≡ storeCall op (now (dir .entry)) (now (pool .entry)) clock (now (key .entry)) kind number (now (text .entry)) lifetime flags ⌝ }
-    ensures least_loss { λ r. ⌜ StoreLosesLeast op (now (dir .entry)) (now (pool .entry)) clock (now (key .entry)) kind number (now (text .entry)) lifetime flags (gave r (now (dir .exit)) (now (pool .exit))) ⌝ }
+    ensures loss { λ r. ⌜ StoreLoses op (now (dir .entry)) (now (pool .entry)) clock (now (key .entry)) kind number (now (text .entry)) lifetime flags (gave r (now (dir .exit)) (now (pool .exit))) ⌝ }
 {
     let check = checks::of_store(op, dir, pool, clock, key, kind, lifetime);
     if let Check::Refused(o) = check {
@@ -315,7 +315,7 @@ pub fn set(
     flags: u32,
 ) -> Answer
     ensures result { λ r. ⌜ gave r (now (dir .exit)) (now (pool .exit)) ≡ storeCall Set (now (dir .entry)) (now (pool .entry)) clock (now (key .entry)) kind number (now (text .entry)) lifetime flags ⌝ }
-    ensures least_loss { λ r. ⌜ StoreLosesLeast Set (now (dir .entry)) (now (pool .entry)) clock (now (key .entry)) kind number (now (text .entry)) lifetime flags (gave r (now (dir .exit)) (now (pool .exit))) ⌝ }
+    ensures loss { λ r. ⌜ StoreLoses Set (now (dir .entry)) (now (pool .entry)) clock (now (key .entry)) kind number (now (text .entry)) lifetime flags (gave r (now (dir .exit)) (now (pool .exit))) ⌝ }
 {
     store(
         Operation::Set,
@@ -344,7 +344,7 @@ pub fn safe_set(
     flags: u32,
 ) -> Answer
     ensures result { λ r. ⌜ gave r (now (dir .exit)) (now (pool .exit)) ≡ storeCall SafeSet (now (dir .entry)) (now (pool .entry)) clock (now (key .entry)) kind number (now (text .entry)) lifetime flags ⌝ }
-    ensures least_loss { λ r. ⌜ StoreLosesLeast SafeSet (now (dir .entry)) (now (pool .entry)) clock (now (key .entry)) kind number (now (text .entry)) lifetime flags (gave r (now (dir .exit)) (now (pool .exit))) ⌝ }
+    ensures loss { λ r. ⌜ StoreLoses SafeSet (now (dir .entry)) (now (pool .entry)) clock (now (key .entry)) kind number (now (text .entry)) lifetime flags (gave r (now (dir .exit)) (now (pool .exit))) ⌝ }
 {
     store(
         Operation::SafeSet,
@@ -373,7 +373,7 @@ pub fn add(
     flags: u32,
 ) -> Answer
     ensures result { λ r. ⌜ gave r (now (dir .exit)) (now (pool .exit)) ≡ storeCall Add (now (dir .entry)) (now (pool .entry)) clock (now (key .entry)) kind number (now (text .entry)) lifetime flags ⌝ }
-    ensures least_loss { λ r. ⌜ StoreLosesLeast Add (now (dir .entry)) (now (pool .entry)) clock (now (key .entry)) kind number (now (text .entry)) lifetime flags (gave r (now (dir .exit)) (now (pool .exit))) ⌝ }
+    ensures loss { λ r. ⌜ StoreLoses Add (now (dir .entry)) (now (pool .entry)) clock (now (key .entry)) kind number (now (text .entry)) lifetime flags (gave r (now (dir .exit)) (now (pool .exit))) ⌝ }
 {
     store(
         Operation::Add,
@@ -402,7 +402,7 @@ pub fn safe_add(
     flags: u32,
 ) -> Answer
     ensures result { λ r. ⌜ gave r (now (dir .exit)) (now (pool .exit)) ≡ storeCall SafeAdd (now (dir .entry)) (now (pool .entry)) clock (now (key .entry)) kind number (now (text .entry)) lifetime flags ⌝ }
-    ensures least_loss { λ r. ⌜ StoreLosesLeast SafeAdd (now (dir .entry)) (now (pool .entry)) clock (now (key .entry)) kind number (now (text .entry)) lifetime flags (gave r (now (dir .exit)) (now (pool .exit))) ⌝ }
+    ensures loss { λ r. ⌜ StoreLoses SafeAdd (now (dir .entry)) (now (pool .entry)) clock (now (key .entry)) kind number (now (text .entry)) lifetime flags (gave r (now (dir .exit)) (now (pool .exit))) ⌝ }
 {
     store(
         Operation::SafeAdd,
@@ -431,7 +431,7 @@ pub fn replace(
     flags: u32,
 ) -> Answer
     ensures result { λ r. ⌜ gave r (now (dir .exit)) (now (pool .exit)) ≡ storeCall Replace (now (dir .entry)) (now (pool .entry)) clock (now (key .entry)) kind number (now (text .entry)) lifetime flags ⌝ }
-    ensures least_loss { λ r. ⌜ StoreLosesLeast Replace (now (dir .entry)) (now (pool .entry)) clock (now (key .entry)) kind number (now (text .entry)) lifetime flags (gave r (now (dir .exit)) (now (pool .exit))) ⌝ }
+    ensures loss { λ r. ⌜ StoreLoses Replace (now (dir .entry)) (now (pool .entry)) clock (now (key .entry)) kind number (now (text .entry)) lifetime flags (gave r (now (dir .exit)) (now (pool .exit))) ⌝ }
 {
     store(
         Operation::Replace,
