@@ -177,17 +177,26 @@ _NIL, _BOOLEAN, _NUMBER, _TEXT = 0, 1, 3, 4
 
 
 def _bytes(thing, what):
+    """What the thing holds, as bytes and no subclass of it: its length goes to C, and a subclass may tell another one.
+
+    Hence neither encode nor __bytes__ of the caller's class is called: both may give such a subclass.
+    """
     if isinstance(thing, str):
-        return thing.encode()
+        return str.encode(thing)
     if isinstance(thing, (bytes, bytearray, memoryview)):
         # a copy, because it may lie in the pool that the call changes
-        return bytes(thing)
+        return bytes(memoryview(thing))
     raise TypeError(f"{what} is bytes or str, not {type(thing).__name__}")
+
+
+def _exact(number):
+    """The number as int and no subclass of it, which may compare wrongly; before Python 3.10 index can give one."""
+    return int.__index__(operator.index(number))
 
 
 def _whole(number, low, high, what):
     """The number; ctypes would cut one that does not fit."""
-    number = operator.index(number)
+    number = _exact(number)
     if not low <= number <= high:
         raise OverflowError(f"{what} is from {low} to {high}")
     return number
@@ -206,7 +215,7 @@ def _value(value):
     if value is None:
         return _NIL, 0, b""
     if isinstance(value, bool):
-        return _BOOLEAN, int(value), b""
+        return _BOOLEAN, int(bool(value)), b""
     if isinstance(value, int):
         return _NUMBER, _weight(value, "a number"), b""
     return _TEXT, 0, _bytes(value, "a value that is neither bool nor int")
@@ -244,7 +253,8 @@ class Dict(MutableMapping):
 
     def __init__(self, cells, clock=_wall_clock):
         """An empty dictionary of 1 to 1,024 cells of 32 bytes; clock() is the time in milliseconds."""
-        if not 1 <= operator.index(cells) <= MAX_CELLS:
+        cells = _exact(cells)
+        if not 1 <= cells <= MAX_CELLS:
             raise ValueError(f"cells are from 1 to {MAX_CELLS}")
         self._take(bytearray(8 * (2 + 6 * cells)), bytearray(CELL_BYTES * cells), clock)
         self.make_fresh()

@@ -141,6 +141,116 @@ class AsDictionary(Yard):
         self.assertRaises(NotFound, self.yard.get_stale, "b")
 
 
+class OtherClasses(Yard):
+    """A class of the caller's may tell another length, or other bytes, than it holds: neither goes to C."""
+
+    class Liar(bytes):
+        def __len__(self):
+            return 1_000_000
+
+    class Converted(bytes):
+        def __bytes__(self):
+            return OtherClasses.Liar(b"other")
+
+    class Buffer(bytearray):
+        def __len__(self):
+            return 1_000_000
+
+        def __bytes__(self):
+            return OtherClasses.Liar(b"other")
+
+    class Encoded(str):
+        def __len__(self):
+            return 1_000_000
+
+        def encode(self, *_):
+            return OtherClasses.Liar(b"other")
+
+    class NotEncoded(str):
+        def encode(self, *_):
+            return 7
+
+    class Number(int):
+        """Compares as if it were in every range."""
+
+        def __le__(self, other):
+            return True
+
+        __lt__ = __ge__ = __gt__ = __le__
+
+    ALL = [Liar(b"tare"), Converted(b"tare"), Buffer(b"tare"), Encoded("tare"), NotEncoded("tare")]
+
+    def test_bytes_are_made_plain(self):
+        for thing in [*self.ALL, b"tare", bytearray(b"tare"), memoryview(b"t.a.r.e.")[::2], memoryview(b"tare").cast("I")]:
+            with self.subTest(type(thing).__name__):
+                made = reefcandor._bytes(thing, "a key")
+                self.assertIs(type(made), bytes)
+                self.assertEqual(made, b"tare")
+
+    def test_a_key_has_the_length_that_it_holds(self):
+        for key in self.ALL:
+            with self.subTest(type(key).__name__):
+                self.yard.set(key, 5)
+                self.assertEqual(list(self.yard._dir)[:8], [1, 1, 0, 3, 0, 0, 4, 8])
+                self.assertEqual(self.yard.items(), [(b"tare", 5)])
+                self.assertEqual((self.yard[key], key in self.yard, self.yard.ttl(key), self.yard.incr(key).number), (5, True, 0, 6))
+                self.assertEqual(self.yard.pop(key), 6)
+                self.yard.update([(key, 7)])
+                self.assertEqual((self.yard.setdefault(key, 8), self.yard.get_stale(key).value), (7, 7))
+                self.yard.delete(key)
+                self.assertEqual(len(self.yard), 0)
+
+    def test_a_text_has_the_length_that_it_holds(self):
+        for text in self.ALL:
+            with self.subTest(type(text).__name__):
+                for store in [self.yard.set, self.yard.safe_set, self.yard.replace, self.yard.setdefault]:
+                    store("k", text)
+                    self.assertEqual(self.yard.find("k"), Found(b"tare", 0, False, 0, 1, 4))
+                self.assertEqual(bytes(self.yard._pool), b"ktare" + bytes(123))
+                self.yard.clear()
+
+    def test_a_class_that_only_passes_for_bytes_or_str_is_refused(self):
+        class Passing:
+            def __init__(self, other):
+                self.other = other
+
+            @property
+            def __class__(self):
+                return self.other
+
+            def __len__(self):
+                return 1_000_000
+
+            def encode(self):
+                return OtherClasses.Liar(b"tare")
+
+            __bytes__ = encode
+
+        for other in bytes, bytearray, memoryview, str:
+            self.assertIsInstance(Passing(other), other)
+            self.assertRaises(TypeError, self.yard.find, Passing(other))
+            self.assertRaises(TypeError, self.yard.set, "k", Passing(other))
+
+    def test_a_number_is_held_to_its_range_whatever_it_says(self):
+        for number in [2**64, -(2**63) - 1]:
+            liar = self.Number(number)
+            self.assertTrue(0 <= liar <= 1)
+            self.assertRaises(OverflowError, self.yard.set, "k", liar)
+            self.assertRaises(OverflowError, self.yard.set, "k", 1, lifetime=liar)
+            self.assertRaises(OverflowError, self.yard.set, "k", 1, flags=liar)
+            self.assertRaises(OverflowError, self.yard.bytes_at, 0, liar)
+            self.assertRaises(OverflowError, self.yard.get_keys, liar)
+            self.assertRaises(ValueError, Dict, liar)
+        self.now = self.Number(2**64)
+        self.assertRaises(OverflowError, self.yard.find, "k")
+
+    def test_a_lent_buffer_has_the_length_that_it_holds(self):
+        yard = Dict.lent(self.Buffer(208), self.Buffer(128), clock=lambda: 1)
+        self.assertEqual(yard._memory[1::2], (26, 128))
+        yard.make_fresh()
+        self.assertTrue(yard.audit())
+
+
 class Calls(Yard):
     def test_find_tells_every_field(self):
         self.yard.set("AB12", True, flags=2**32 - 1)
