@@ -24,7 +24,7 @@ import operator
 import os
 import time
 from collections import namedtuple
-from collections.abc import MutableMapping
+from collections.abc import Mapping, MutableMapping
 from pathlib import Path
 
 __all__ = ["CELL_BYTES", "Counted", "Dict", "Found", "MAX_CELLS", "NotFound", "Outcome", "Refused", "Stored"]
@@ -221,6 +221,13 @@ def _value(value):
     return _TEXT, 0, _bytes(value, "a value that is neither bool nor int")
 
 
+def _item(value):
+    """A value that is no nil."""
+    if value is None:
+        raise TypeError("None is no value: del takes an entry out")
+    return value
+
+
 # ---- buffers
 
 
@@ -243,6 +250,10 @@ def _overlap(a, b):
 
 def _wall_clock():
     return time.time_ns() // 1_000_000
+
+
+# stands for a default that is not given, since None may be one
+_NO_DEFAULT = object()
 
 
 # ---- the dictionary
@@ -293,6 +304,12 @@ class Dict(MutableMapping):
         lifetime, flags = _unsigned(lifetime, "a lifetime"), _unsigned(flags, "flags", 32)
         answer = self._ask(call, *self._at(key), kind, number, text, len(text), lifetime, flags)
         return Stored(answer.rounds, answer.removed, bool(answer.forced))
+
+    def _take_out(self, at):
+        """The live value under the key, whose entry leaves."""
+        value = self._found(self._ask("get", *at)).value
+        self._ask("delete", *at)
+        return value
 
     def _found(self, answer):
         if answer.kind == _TEXT:
@@ -406,14 +423,54 @@ class Dict(MutableMapping):
         return self.find(key).value
 
     def __setitem__(self, key, value):
-        if value is None:
-            raise TypeError("None is no value: del takes an entry out")
-        self.set(key, value)
+        self.set(key, _item(value))
+
+    # Each of these makes several of the library's calls. All are made at one clock, read before the first of them: a
+    # clock that is refused changes nothing, and no entry dies between two of the calls.
 
     def __delitem__(self, key):
+        at = self._at(key)
         # the library's delete is done also where nothing is
-        self.ttl(key)
-        self.delete(key)
+        self._ask("ttl", *at)
+        self._ask("delete", *at)
+
+    def pop(self, key, default=_NO_DEFAULT):
+        """Takes the live entry under the key out, and gives its value; where there is none, the default if one is given."""
+        try:
+            return self._take_out(self._at(key))
+        except NotFound:
+            if default is _NO_DEFAULT:
+                raise
+            return default
+
+    def popitem(self):
+        """Takes the most recently used live entry out, and gives its key and value."""
+        clock = self._now()
+        keys = self._keys(clock, 1)
+        if not keys:
+            raise NotFound(Outcome.NOT_FOUND)
+        return keys[0], self._take_out((clock, keys[0], len(keys[0])))
+
+    def setdefault(self, key, default=None):
+        """The live value under the key, which moves to the front; where there is none the default is set and given."""
+        at = self._at(key)
+        try:
+            return self._found(self._ask("get", *at)).value
+        except NotFound:
+            kind, number, text = _value(_item(default))
+        self._ask("set", *at, kind, number, text, len(text), 0, 0)
+        return default
+
+    def update(self, other=(), /, **named):
+        """Sets each pair in turn. All are looked at before the first is set; one that the library refuses ends it."""
+        if isinstance(other, Mapping):
+            other = other.items()
+        elif hasattr(other, "keys"):
+            other = [(key, other[key]) for key in other.keys()]
+        stores = [(_bytes(key, "a key"), *_value(_item(value))) for key, value in [*other, *named.items()]]
+        clock = self._now()
+        for key, kind, number, text in stores:
+            self._ask("set", clock, key, len(key), kind, number, text, len(text), 0, 0)
 
     def __contains__(self, key):
         try:
@@ -441,5 +498,8 @@ class Dict(MutableMapping):
 
     def clear(self):
         """Takes all entries out."""
+        clock = self._now()
+        # changes nothing, and refuses whatever flush_expired would refuse
+        self._keys(clock, 1)
         self.flush_all()
-        self.flush_expired()
+        self._ask("flush_expired", clock, 0)

@@ -141,6 +141,103 @@ class AsDictionary(Yard):
         self.assertRaises(NotFound, self.yard.get_stale, "b")
 
 
+    def test_pop_takes_a_default_of_none_and_by_name(self):
+        self.assertIsNone(self.yard.pop("AB12", None))
+        self.assertEqual(self.yard.pop("AB12", default=7), 7)
+
+    def test_setdefault_of_none_is_refused_only_where_it_would_be_set(self):
+        self.fill()
+        self.assertEqual(self.yard.setdefault("b"), 2)
+        self.assertRaises(TypeError, self.yard.setdefault, "e")
+        self.assertEqual(self.order(), "bdca")
+
+    def test_update_takes_what_a_dictionary_takes(self):
+        class WithKeys:
+            def keys(self):
+                return ["c", "d"]
+
+            def __getitem__(self, key):
+                return ord(key)
+
+        other = Dict(4, clock=lambda: 1)
+        other["e"] = b"tare"
+        self.yard.update([("a", 1), (bytearray(b"b"), 2)], b=3)
+        self.assertEqual(self.yard.items(), [(b"b", 3), (b"a", 1)])
+        self.yard.update(WithKeys())
+        self.assertEqual(self.yard.items(), [(b"d", 100), (b"c", 99), (b"b", 3), (b"a", 1)])
+        self.yard.update(other)
+        self.assertEqual(self.yard["e"], b"tare")
+
+    def test_update_sets_pairs_in_turn(self):
+        self.yard.update([("a", 1), ("b", 2), ("a", 3)])
+        self.assertEqual(self.yard.items(), [(b"a", 3), (b"b", 2)])
+
+    def test_update_looks_at_all_pairs_before_the_first_is_set(self):
+        self.fill()
+        before = self.memory()
+        self.assertRaises(TypeError, self.yard.update, {"a": 7, "b": None})
+        self.assertRaises(TypeError, self.yard.update, [("a", 7), (None, 7)])
+        self.assertRaises(OverflowError, self.yard.update, [("a", 7)], b=2**63)
+        self.assertRaises(ValueError, self.yard.update, [("a", 7), ("b",)])
+        self.assertEqual(self.memory(), before)
+
+    def test_update_ends_with_the_pair_that_is_refused(self):
+        self.refuses(Outcome.KEY_EMPTY, self.yard.update, [("a", 1), ("", 2), ("c", 3)])
+        self.assertEqual(self.order(), "a")
+
+
+class OneClock(Yard):
+    """A method that makes several of the library's calls makes them at one clock, which it reads first."""
+
+    # each of them has something to do in a full yard
+    METHODS = {
+        "del": lambda yard: yard.__delitem__("b"),
+        "pop": lambda yard: yard.pop("b"),
+        "pop, missing": lambda yard: yard.pop("m", None),
+        "popitem": Dict.popitem,
+        "setdefault, live": lambda yard: yard.setdefault("b", 7),
+        "setdefault, missing": lambda yard: yard.setdefault("m", 7),
+        "update": lambda yard: yard.update(a=5, b=6, c=7),
+        "clear": Dict.clear,
+        "items": Dict.items,
+        "values": Dict.values,
+    }
+
+    def test_the_clock_is_read_once(self):
+        for name, method in self.METHODS.items():
+            with self.subTest(name):
+                readings = []
+                yard = Dict(4, clock=lambda: readings.append(1) or 1000)
+                yard.update(a=1, b=2, c=3, d=4)
+                readings.clear()
+                method(yard)
+                self.assertEqual(len(readings), 1)
+
+    def test_a_clock_that_is_refused_changes_nothing(self):
+        def broken():
+            raise OSError("no clock")
+
+        for clock, error in [(lambda: 0, Refused), (lambda: 2**64, OverflowError), (lambda: -1, OverflowError), (broken, OSError)]:
+            for name, method in self.METHODS.items():
+                with self.subTest(name, error=error.__name__):
+                    yard = Dict(4, clock=lambda: 1000)
+                    # an entry that a sweep takes at any later clock
+                    yard.set("a", 1, lifetime=1)
+                    yard.update(b=2, c=3, d=4)
+                    before = bytes(yard._dir), bytes(yard._pool)
+                    yard.clock = clock
+                    self.assertRaises(error, method, yard)
+                    self.assertEqual((bytes(yard._dir), bytes(yard._pool)), before)
+
+    def test_an_entry_does_not_die_between_the_calls(self):
+        for method, given in [(lambda yard: yard.pop("a", 7), 1), (Dict.popitem, (b"a", 1)), (lambda yard: yard.__delitem__("a"), None)]:
+            yard = Dict(4, clock=lambda: 1000)
+            yard.set("a", 1, lifetime=50)
+            yard.clock = iter([1049, 1050, 1051, 1052]).__next__
+            self.assertEqual(method(yard), given)
+            self.assertEqual(list(yard._dir), [1] + [0] * 25)
+
+
 class OtherClasses(Yard):
     """A class of the caller's may tell another length, or other bytes, than it holds: neither goes to C."""
 
