@@ -15,7 +15,14 @@ iteration, `keys`, `values`, `items`, `get_stale`, `ttl` and `show` change nothi
 calls, by its names; include/reefcandor.h says what each does.
 
 The clock is read once a call, in milliseconds. A lifetime of 0 is for ever. Whenever an entry leaves, all its cells in
-the pool become zero at once. A memory is used by one thread at a time.
+the pool become zero at once.
+
+No two threads or programs may be in a call on the same memory at once, calls that only read included: the library takes
+no lock. Who shares a memory, between processes too, puts every call under one lock of their own; a method may make
+several calls. Without one the memory is soon not sound, and a get can tell another key's value.
+
+All users of a memory use the same clock, Unix time in milliseconds, which is the default: with two clocks one of them
+sweeps out what is live for the other.
 """
 
 import ctypes
@@ -435,7 +442,7 @@ class Dict(MutableMapping):
         self._ask("delete", *at)
 
     def pop(self, key, default=_NO_DEFAULT):
-        """Takes the live entry under the key out, and gives its value; where there is none, the default if one is given."""
+        """Takes the live entry under the key out and gives its value; where there is none, the default, if given."""
         try:
             return self._take_out(self._at(key))
         except NotFound:
