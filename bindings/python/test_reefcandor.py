@@ -217,7 +217,8 @@ class OneClock(Yard):
         def broken():
             raise OSError("no clock")
 
-        for clock, error in [(lambda: 0, Refused), (lambda: 2**64, OverflowError), (lambda: -1, OverflowError), (broken, OSError)]:
+        clocks = [(lambda: 0, Refused), (lambda: 2**64, OverflowError), (lambda: -1, OverflowError), (broken, OSError)]
+        for clock, error in clocks:
             for name, method in self.METHODS.items():
                 with self.subTest(name, error=error.__name__):
                     yard = Dict(4, clock=lambda: 1000)
@@ -230,7 +231,11 @@ class OneClock(Yard):
                     self.assertEqual((bytes(yard._dir), bytes(yard._pool)), before)
 
     def test_an_entry_does_not_die_between_the_calls(self):
-        for method, given in [(lambda yard: yard.pop("a", 7), 1), (Dict.popitem, (b"a", 1)), (lambda yard: yard.__delitem__("a"), None)]:
+        for method, given in [
+            (lambda yard: yard.pop("a", 7), 1),
+            (Dict.popitem, (b"a", 1)),
+            (lambda yard: yard.__delitem__("a"), None),
+        ]:
             yard = Dict(4, clock=lambda: 1000)
             yard.set("a", 1, lifetime=50)
             yard.clock = iter([1049, 1050, 1051, 1052]).__next__
@@ -278,7 +283,8 @@ class OtherClasses(Yard):
     ALL = [Liar(b"tare"), Converted(b"tare"), Buffer(b"tare"), Encoded("tare"), NotEncoded("tare")]
 
     def test_bytes_are_made_plain(self):
-        for thing in [*self.ALL, b"tare", bytearray(b"tare"), memoryview(b"t.a.r.e.")[::2], memoryview(b"tare").cast("I")]:
+        views = [memoryview(b"t.a.r.e.")[::2], memoryview(b"tare").cast("I")]
+        for thing in [*self.ALL, b"tare", bytearray(b"tare"), *views]:
             with self.subTest(type(thing).__name__):
                 made = reefcandor._bytes(thing, "a key")
                 self.assertIs(type(made), bytes)
@@ -290,7 +296,8 @@ class OtherClasses(Yard):
                 self.yard.set(key, 5)
                 self.assertEqual(list(self.yard._dir)[:8], [1, 1, 0, 3, 0, 0, 4, 8])
                 self.assertEqual(self.yard.items(), [(b"tare", 5)])
-                self.assertEqual((self.yard[key], key in self.yard, self.yard.ttl(key), self.yard.incr(key).number), (5, True, 0, 6))
+                self.assertEqual((self.yard[key], key in self.yard, self.yard.ttl(key)), (5, True, 0))
+                self.assertEqual(self.yard.incr(key).number, 6)
                 self.assertEqual(self.yard.pop(key), 6)
                 self.yard.update([(key, 7)])
                 self.assertEqual((self.yard.setdefault(key, 8), self.yard.get_stale(key).value), (7, 7))

@@ -8,9 +8,9 @@
 //! Where the papers leave a point open it follows docs/DECISIONS.md, as the library does; comments cite a decision by
 //! its number. So that both programs agree tells something about the reading of the papers only where their sentences
 //! decide. It tells nothing about it for the decisions that are marked as open there, where both do what was decided
-//! once: which checks a call makes, and of which arguments (1, 3, 6, 7, 33); what is sound (9, 10, 14); the fields of get and
-//! incr (18, 20); equal keys (31); show, get_keys and flush_expired (39 to 41); how replay lines are read and printed
-//! (42 to 46, 48, 51 to 53); the wipe of a `fresh` in replay and which stores request 9 means (57, 60).
+//! once: which checks a call makes, and of which arguments (1, 3, 6, 7, 33); what is sound (9, 10, 14); the fields of
+//! get and incr (18, 20); equal keys (31); show, get_keys and flush_expired (39 to 41); how replay lines are read and
+//! printed (42 to 46, 48, 51 to 53); the wipe of a `fresh` in replay and which stores request 9 means (57, 60).
 //!
 //! | Module | Holds |
 //! |---|---|
