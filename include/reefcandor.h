@@ -8,8 +8,13 @@
  * What the caller owes is what C cannot check:
  *   - a pointer is aligned for its type, not null, and good for its length, counted in elements and not in bytes.
  *     An empty slice may be passed as any non-null pointer with length 0;
- *   - a buffer that is not const is not shared: during the call it overlaps no other argument, and no other thread
- *     uses it. In particular key and text may not lie in a pool that the call may change (const buffers may overlap).
+ *   - a buffer that is not const overlaps no other argument. In particular key and text may not lie in a pool that the
+ *     call may change (const buffers may overlap);
+ *   - no two threads or programs are in a call on the same memory at once, calls that only read included: the library
+ *     takes no lock. Who shares a memory, between processes too, puts every call under one lock of their own. Without
+ *     one the memory is soon not sound, and a get can tell another key's value;
+ *   - all users of a memory use the same clock, Unix time in milliseconds: with two clocks one of them sweeps out what
+ *     is live for the other.
  *
  * Link the archive that `rt staticlib capi` writes, target/staticlib/libcapi.a (x86-64 Linux).
  *
@@ -83,7 +88,7 @@ extern "C" {
 #define REEFCANDOR_EXISTS 9
 #define REEFCANDOR_NOT_NUMBER 10
 #define REEFCANDOR_SUM_TOO_LARGE 11
-/* sweep, the key's own old entry and the rounds are gone */
+/* the sweep is done and the key's own old entry is gone; rounds are run only if they make room, so none was */
 #define REEFCANDOR_NO_MEMORY 12
 /* a replay line was not understood: no call of this library answers it */
 #define REEFCANDOR_LINE_UNREADABLE 13
@@ -104,8 +109,8 @@ extern "C" {
 
 /* ---- the calls
  *
- * `clock` is in milliseconds, and only this value counts. An entry is dead if its expiry is not 0 and is at or below
- * the clock. A lifetime of 0 is for ever.
+ * `clock` is in milliseconds, the same clock for all users of a memory, and only this value counts. An entry is dead if
+ * its expiry is not 0 and is at or below the clock. A lifetime of 0 is for ever.
  *
  * "Sweeps": up to two dead entries leave first at the long-unused end, up to the first live one; the answer's
  * removed counts them.

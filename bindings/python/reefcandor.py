@@ -15,7 +15,14 @@ iteration, `keys`, `values`, `items`, `get_stale`, `ttl` and `show` change nothi
 calls, by its names; include/reefcandor.h says what each does.
 
 The clock is read once a call, in milliseconds. A lifetime of 0 is for ever. Whenever an entry leaves, all its cells in
-the pool become zero at once. A memory is used by one thread at a time.
+the pool become zero at once.
+
+No two threads or programs may be in a call on the same memory at once, calls that only read included: the library takes
+no lock. Who shares a memory, between processes too, puts every call under one lock of their own; a method may make
+several calls. Without one the memory is soon not sound, and a get can tell another key's value.
+
+All users of a memory use the same clock, Unix time in milliseconds, which is the default: with two clocks one of them
+sweeps out what is live for the other.
 """
 
 import ctypes
@@ -24,7 +31,7 @@ import operator
 import os
 import time
 from collections import namedtuple
-from collections.abc import MutableMapping
+from collections.abc import Mapping, MutableMapping
 from pathlib import Path
 
 __all__ = ["CELL_BYTES", "Counted", "Dict", "Found", "MAX_CELLS", "NotFound", "Outcome", "Refused", "Stored"]
@@ -177,17 +184,26 @@ _NIL, _BOOLEAN, _NUMBER, _TEXT = 0, 1, 3, 4
 
 
 def _bytes(thing, what):
+    """What the thing holds, as bytes and no subclass of it: its length goes to C, and a subclass may tell another one.
+
+    Hence neither encode nor __bytes__ of the caller's class is called: both may give such a subclass.
+    """
     if isinstance(thing, str):
-        return thing.encode()
+        return str.encode(thing)
     if isinstance(thing, (bytes, bytearray, memoryview)):
         # a copy, because it may lie in the pool that the call changes
-        return bytes(thing)
+        return bytes(memoryview(thing))
     raise TypeError(f"{what} is bytes or str, not {type(thing).__name__}")
+
+
+def _exact(number):
+    """The number as int and no subclass of it, which may compare wrongly; before Python 3.10 index can give one."""
+    return int.__index__(operator.index(number))
 
 
 def _whole(number, low, high, what):
     """The number; ctypes would cut one that does not fit."""
-    number = operator.index(number)
+    number = _exact(number)
     if not low <= number <= high:
         raise OverflowError(f"{what} is from {low} to {high}")
     return number
@@ -206,10 +222,17 @@ def _value(value):
     if value is None:
         return _NIL, 0, b""
     if isinstance(value, bool):
-        return _BOOLEAN, int(value), b""
+        return _BOOLEAN, int(bool(value)), b""
     if isinstance(value, int):
         return _NUMBER, _weight(value, "a number"), b""
     return _TEXT, 0, _bytes(value, "a value that is neither bool nor int")
+
+
+def _item(value):
+    """A value that is no nil."""
+    if value is None:
+        raise TypeError("None is no value: del takes an entry out")
+    return value
 
 
 # ---- buffers
@@ -236,6 +259,10 @@ def _wall_clock():
     return time.time_ns() // 1_000_000
 
 
+# stands for a default that is not given, since None may be one
+_NO_DEFAULT = object()
+
+
 # ---- the dictionary
 
 
@@ -244,7 +271,8 @@ class Dict(MutableMapping):
 
     def __init__(self, cells, clock=_wall_clock):
         """An empty dictionary of 1 to 1,024 cells of 32 bytes; clock() is the time in milliseconds."""
-        if not 1 <= operator.index(cells) <= MAX_CELLS:
+        cells = _exact(cells)
+        if not 1 <= cells <= MAX_CELLS:
             raise ValueError(f"cells are from 1 to {MAX_CELLS}")
         self._take(bytearray(8 * (2 + 6 * cells)), bytearray(CELL_BYTES * cells), clock)
         self.make_fresh()
@@ -283,6 +311,12 @@ class Dict(MutableMapping):
         lifetime, flags = _unsigned(lifetime, "a lifetime"), _unsigned(flags, "flags", 32)
         answer = self._ask(call, *self._at(key), kind, number, text, len(text), lifetime, flags)
         return Stored(answer.rounds, answer.removed, bool(answer.forced))
+
+    def _take_out(self, at):
+        """The live value under the key, whose entry leaves."""
+        value = self._found(self._ask("get", *at)).value
+        self._ask("delete", *at)
+        return value
 
     def _found(self, answer):
         if answer.kind == _TEXT:
@@ -396,14 +430,54 @@ class Dict(MutableMapping):
         return self.find(key).value
 
     def __setitem__(self, key, value):
-        if value is None:
-            raise TypeError("None is no value: del takes an entry out")
-        self.set(key, value)
+        self.set(key, _item(value))
+
+    # Each of these makes several of the library's calls. All are made at one clock, read before the first of them: a
+    # clock that is refused changes nothing, and no entry dies between two of the calls.
 
     def __delitem__(self, key):
+        at = self._at(key)
         # the library's delete is done also where nothing is
-        self.ttl(key)
-        self.delete(key)
+        self._ask("ttl", *at)
+        self._ask("delete", *at)
+
+    def pop(self, key, default=_NO_DEFAULT):
+        """Takes the live entry under the key out and gives its value; where there is none, the default, if given."""
+        try:
+            return self._take_out(self._at(key))
+        except NotFound:
+            if default is _NO_DEFAULT:
+                raise
+            return default
+
+    def popitem(self):
+        """Takes the most recently used live entry out, and gives its key and value."""
+        clock = self._now()
+        keys = self._keys(clock, 1)
+        if not keys:
+            raise NotFound(Outcome.NOT_FOUND)
+        return keys[0], self._take_out((clock, keys[0], len(keys[0])))
+
+    def setdefault(self, key, default=None):
+        """The live value under the key, which moves to the front; where there is none the default is set and given."""
+        at = self._at(key)
+        try:
+            return self._found(self._ask("get", *at)).value
+        except NotFound:
+            kind, number, text = _value(_item(default))
+        self._ask("set", *at, kind, number, text, len(text), 0, 0)
+        return default
+
+    def update(self, other=(), /, **named):
+        """Sets each pair in turn. All are looked at before the first is set; one that the library refuses ends it."""
+        if isinstance(other, Mapping):
+            other = other.items()
+        elif hasattr(other, "keys"):
+            other = [(key, other[key]) for key in other.keys()]
+        stores = [(_bytes(key, "a key"), *_value(_item(value))) for key, value in [*other, *named.items()]]
+        clock = self._now()
+        for key, kind, number, text in stores:
+            self._ask("set", clock, key, len(key), kind, number, text, len(text), 0, 0)
 
     def __contains__(self, key):
         try:
@@ -431,5 +505,8 @@ class Dict(MutableMapping):
 
     def clear(self):
         """Takes all entries out."""
+        clock = self._now()
+        # changes nothing, and refuses whatever flush_expired would refuse
+        self._keys(clock, 1)
         self.flush_all()
-        self.flush_expired()
+        self._ask("flush_expired", clock, 0)

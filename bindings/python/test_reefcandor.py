@@ -141,6 +141,220 @@ class AsDictionary(Yard):
         self.assertRaises(NotFound, self.yard.get_stale, "b")
 
 
+    def test_pop_takes_a_default_of_none_and_by_name(self):
+        self.assertIsNone(self.yard.pop("AB12", None))
+        self.assertEqual(self.yard.pop("AB12", default=7), 7)
+
+    def test_setdefault_of_none_is_refused_only_where_it_would_be_set(self):
+        self.fill()
+        self.assertEqual(self.yard.setdefault("b"), 2)
+        self.assertRaises(TypeError, self.yard.setdefault, "e")
+        self.assertEqual(self.order(), "bdca")
+
+    def test_update_takes_what_a_dictionary_takes(self):
+        class WithKeys:
+            def keys(self):
+                return ["c", "d"]
+
+            def __getitem__(self, key):
+                return ord(key)
+
+        other = Dict(4, clock=lambda: 1)
+        other["e"] = b"tare"
+        self.yard.update([("a", 1), (bytearray(b"b"), 2)], b=3)
+        self.assertEqual(self.yard.items(), [(b"b", 3), (b"a", 1)])
+        self.yard.update(WithKeys())
+        self.assertEqual(self.yard.items(), [(b"d", 100), (b"c", 99), (b"b", 3), (b"a", 1)])
+        self.yard.update(other)
+        self.assertEqual(self.yard["e"], b"tare")
+
+    def test_update_sets_pairs_in_turn(self):
+        self.yard.update([("a", 1), ("b", 2), ("a", 3)])
+        self.assertEqual(self.yard.items(), [(b"a", 3), (b"b", 2)])
+
+    def test_update_looks_at_all_pairs_before_the_first_is_set(self):
+        self.fill()
+        before = self.memory()
+        self.assertRaises(TypeError, self.yard.update, {"a": 7, "b": None})
+        self.assertRaises(TypeError, self.yard.update, [("a", 7), (None, 7)])
+        self.assertRaises(OverflowError, self.yard.update, [("a", 7)], b=2**63)
+        self.assertRaises(ValueError, self.yard.update, [("a", 7), ("b",)])
+        self.assertEqual(self.memory(), before)
+
+    def test_update_ends_with_the_pair_that_is_refused(self):
+        self.refuses(Outcome.KEY_EMPTY, self.yard.update, [("a", 1), ("", 2), ("c", 3)])
+        self.assertEqual(self.order(), "a")
+
+
+class OneClock(Yard):
+    """A method that makes several of the library's calls makes them at one clock, which it reads first."""
+
+    # each of them has something to do in a full yard
+    METHODS = {
+        "del": lambda yard: yard.__delitem__("b"),
+        "pop": lambda yard: yard.pop("b"),
+        "pop, missing": lambda yard: yard.pop("m", None),
+        "popitem": Dict.popitem,
+        "setdefault, live": lambda yard: yard.setdefault("b", 7),
+        "setdefault, missing": lambda yard: yard.setdefault("m", 7),
+        "update": lambda yard: yard.update(a=5, b=6, c=7),
+        "clear": Dict.clear,
+        "items": Dict.items,
+        "values": Dict.values,
+    }
+
+    def test_the_clock_is_read_once(self):
+        for name, method in self.METHODS.items():
+            with self.subTest(name):
+                readings = []
+                yard = Dict(4, clock=lambda: readings.append(1) or 1000)
+                yard.update(a=1, b=2, c=3, d=4)
+                readings.clear()
+                method(yard)
+                self.assertEqual(len(readings), 1)
+
+    def test_a_clock_that_is_refused_changes_nothing(self):
+        def broken():
+            raise OSError("no clock")
+
+        clocks = [(lambda: 0, Refused), (lambda: 2**64, OverflowError), (lambda: -1, OverflowError), (broken, OSError)]
+        for clock, error in clocks:
+            for name, method in self.METHODS.items():
+                with self.subTest(name, error=error.__name__):
+                    yard = Dict(4, clock=lambda: 1000)
+                    # an entry that a sweep takes at any later clock
+                    yard.set("a", 1, lifetime=1)
+                    yard.update(b=2, c=3, d=4)
+                    before = bytes(yard._dir), bytes(yard._pool)
+                    yard.clock = clock
+                    self.assertRaises(error, method, yard)
+                    self.assertEqual((bytes(yard._dir), bytes(yard._pool)), before)
+
+    def test_an_entry_does_not_die_between_the_calls(self):
+        for method, given in [
+            (lambda yard: yard.pop("a", 7), 1),
+            (Dict.popitem, (b"a", 1)),
+            (lambda yard: yard.__delitem__("a"), None),
+        ]:
+            yard = Dict(4, clock=lambda: 1000)
+            yard.set("a", 1, lifetime=50)
+            yard.clock = iter([1049, 1050, 1051, 1052]).__next__
+            self.assertEqual(method(yard), given)
+            self.assertEqual(list(yard._dir), [1] + [0] * 25)
+
+
+class OtherClasses(Yard):
+    """A class of the caller's may tell another length, or other bytes, than it holds: neither goes to C."""
+
+    class Liar(bytes):
+        def __len__(self):
+            return 1_000_000
+
+    class Converted(bytes):
+        def __bytes__(self):
+            return OtherClasses.Liar(b"other")
+
+    class Buffer(bytearray):
+        def __len__(self):
+            return 1_000_000
+
+        def __bytes__(self):
+            return OtherClasses.Liar(b"other")
+
+    class Encoded(str):
+        def __len__(self):
+            return 1_000_000
+
+        def encode(self, *_):
+            return OtherClasses.Liar(b"other")
+
+    class NotEncoded(str):
+        def encode(self, *_):
+            return 7
+
+    class Number(int):
+        """Compares as if it were in every range."""
+
+        def __le__(self, other):
+            return True
+
+        __lt__ = __ge__ = __gt__ = __le__
+
+    ALL = [Liar(b"tare"), Converted(b"tare"), Buffer(b"tare"), Encoded("tare"), NotEncoded("tare")]
+
+    def test_bytes_are_made_plain(self):
+        views = [memoryview(b"t.a.r.e.")[::2], memoryview(b"tare").cast("I")]
+        for thing in [*self.ALL, b"tare", bytearray(b"tare"), *views]:
+            with self.subTest(type(thing).__name__):
+                made = reefcandor._bytes(thing, "a key")
+                self.assertIs(type(made), bytes)
+                self.assertEqual(made, b"tare")
+
+    def test_a_key_has_the_length_that_it_holds(self):
+        for key in self.ALL:
+            with self.subTest(type(key).__name__):
+                self.yard.set(key, 5)
+                self.assertEqual(list(self.yard._dir)[:8], [1, 1, 0, 3, 0, 0, 4, 8])
+                self.assertEqual(self.yard.items(), [(b"tare", 5)])
+                self.assertEqual((self.yard[key], key in self.yard, self.yard.ttl(key)), (5, True, 0))
+                self.assertEqual(self.yard.incr(key).number, 6)
+                self.assertEqual(self.yard.pop(key), 6)
+                self.yard.update([(key, 7)])
+                self.assertEqual((self.yard.setdefault(key, 8), self.yard.get_stale(key).value), (7, 7))
+                self.yard.delete(key)
+                self.assertEqual(len(self.yard), 0)
+
+    def test_a_text_has_the_length_that_it_holds(self):
+        for text in self.ALL:
+            with self.subTest(type(text).__name__):
+                for store in [self.yard.set, self.yard.safe_set, self.yard.replace, self.yard.setdefault]:
+                    store("k", text)
+                    self.assertEqual(self.yard.find("k"), Found(b"tare", 0, False, 0, 1, 4))
+                self.assertEqual(bytes(self.yard._pool), b"ktare" + bytes(123))
+                self.yard.clear()
+
+    def test_a_class_that_only_passes_for_bytes_or_str_is_refused(self):
+        class Passing:
+            def __init__(self, other):
+                self.other = other
+
+            @property
+            def __class__(self):
+                return self.other
+
+            def __len__(self):
+                return 1_000_000
+
+            def encode(self):
+                return OtherClasses.Liar(b"tare")
+
+            __bytes__ = encode
+
+        for other in bytes, bytearray, memoryview, str:
+            self.assertIsInstance(Passing(other), other)
+            self.assertRaises(TypeError, self.yard.find, Passing(other))
+            self.assertRaises(TypeError, self.yard.set, "k", Passing(other))
+
+    def test_a_number_is_held_to_its_range_whatever_it_says(self):
+        for number in [2**64, -(2**63) - 1]:
+            liar = self.Number(number)
+            self.assertTrue(0 <= liar <= 1)
+            self.assertRaises(OverflowError, self.yard.set, "k", liar)
+            self.assertRaises(OverflowError, self.yard.set, "k", 1, lifetime=liar)
+            self.assertRaises(OverflowError, self.yard.set, "k", 1, flags=liar)
+            self.assertRaises(OverflowError, self.yard.bytes_at, 0, liar)
+            self.assertRaises(OverflowError, self.yard.get_keys, liar)
+            self.assertRaises(ValueError, Dict, liar)
+        self.now = self.Number(2**64)
+        self.assertRaises(OverflowError, self.yard.find, "k")
+
+    def test_a_lent_buffer_has_the_length_that_it_holds(self):
+        yard = Dict.lent(self.Buffer(208), self.Buffer(128), clock=lambda: 1)
+        self.assertEqual(yard._memory[1::2], (26, 128))
+        yard.make_fresh()
+        self.assertTrue(yard.audit())
+
+
 class Calls(Yard):
     def test_find_tells_every_field(self):
         self.yard.set("AB12", True, flags=2**32 - 1)

@@ -75,7 +75,7 @@ impl Answer {
         Answer { outcome, ..Answer::default() }
     }
 
-    /// The same answer with the sweep's removals counted too, whatever the outcome (point 23).
+    /// The same answer with the sweep's removals counted too, whatever the outcome (decision 23 of docs/DECISIONS.md).
     pub(crate) fn after_sweep(self, swept: u64) -> Answer {
         Answer { removed: swept + self.removed, ..self }
     }

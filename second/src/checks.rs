@@ -1,7 +1,7 @@
 //! Soundness (check 1) and the checks of the arguments (2 to 7).
 //!
 //! "Checks run in the order of the numbers 1 to 7, those that the call's arguments allow". Which call makes which is
-//! point 1. All come before the sweep and leave the memory unchanged.
+//! decision 1 of docs/DECISIONS.md. All come before the sweep and leave the memory unchanged.
 
 use crate::answer::outcome::{BAD_KIND, CLOCK_ZERO, EMPTY_KEY, LATE_EXPIRY, LONG_KEY, NOT_SOUND};
 use crate::cells::{CellMap, CELL, MOST_CELLS};
@@ -45,14 +45,14 @@ fn is_sound_alone(entry: &Entry, pool: &[u8], cells: usize) -> bool {
         && value_fits_kind(entry, pool)
 }
 
-/// "a run inside the pool". The sums are exact, without wrap at 2^64 (point 10).
+/// "a run inside the pool". The sums are exact, without wrap at 2^64 (decision 10 of docs/DECISIONS.md).
 fn runs_inside_pool(entry: &Entry, cells: usize) -> bool {
     let bytes = u128::from(entry.key_length) + u128::from(entry.value_length);
     let end = u128::from(entry.start) + bytes.div_ceil(CELL as u128);
     end <= cells as u128
 }
 
-/// "a kind of 1, 3 or 4 with a value that fits it". A boolean's byte is 0 or 1 (point 9).
+/// "a kind of 1, 3 or 4 with a value that fits it". A boolean's byte is 0 or 1 (decision 9 of docs/DECISIONS.md).
 fn value_fits_kind(entry: &Entry, pool: &[u8]) -> bool {
     match u8::try_from(entry.kind) {
         Ok(kind::BOOLEAN) => entry.value_length == 1 && pool[entry.value().start] <= 1,

@@ -74,6 +74,6 @@ fn incr_live(dir: &mut [u64], pool: &mut [u8], slot: usize, step: i64) -> Answer
     };
     pool[found.value()].copy_from_slice(&sum.to_le_bytes());
     move_to_front(dir, slot);
-    // "The answer has kind 3 and the new number." No flags, offset or length (point 20).
+    // "The answer has kind 3 and the new number." No flags, offset or length (decision 20 of docs/DECISIONS.md).
     Answer { kind: kind::NUMBER, number: sum, ..Answer::done() }
 }

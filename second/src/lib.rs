@@ -1,9 +1,16 @@
 //! The independent second program of the shared dictionary.
 //!
 //! A dictionary from keys to values, with use order, expiry and user flags, in two lent buffers: the directory
-//! (`dir`, words of 64 bits) and the pool (`pool`, bytes). It is written from documents 01 and 02 alone, round by
-//! round, so that it can be read against them: the sentence that a piece of code follows is quoted beside it. Where
-//! they leave a point open, the code follows the list of open points and says so as "Point 18", say.
+//! (`dir`, words of 64 bits) and the pool (`pool`, bytes). It is written from documents 01 and 02, round by round, so
+//! that it can be read against them: the sentence that a piece of code follows is quoted beside it. It depends on
+//! nothing of the proved library.
+//!
+//! Where the papers leave a point open it follows docs/DECISIONS.md, as the library does; comments cite a decision by
+//! its number. So that both programs agree tells something about the reading of the papers only where their sentences
+//! decide. It tells nothing about it for the decisions that are marked as open there, where both do what was decided
+//! once: which checks a call makes, and of which arguments (1, 3, 6, 7, 33); what is sound (9, 10, 14); the fields of
+//! get and incr (18, 20); equal keys (31); show, get_keys and flush_expired (39 to 41); how replay lines are read and
+//! printed (42 to 46, 48, 51 to 53); the wipe of a `fresh` in replay and which stores request 9 means (57, 60).
 //!
 //! | Module | Holds |
 //! |---|---|

@@ -37,7 +37,7 @@ pub fn get_stale(dir: &[u64], pool: &[u8], clock: u64, key: &[u8]) -> Answer {
 }
 
 /// "for readers the kind, flags, number, and the value's offset and length in the pool". Offset and length are given
-/// for every kind (point 18).
+/// for every kind (decision 18 of docs/DECISIONS.md).
 fn value_read(entry: &Entry, pool: &[u8]) -> Answer {
     Answer {
         kind: entry.kind as u8,
@@ -75,7 +75,7 @@ pub struct Row {
 
 /// "get_keys fills a lent table of rows, one row a key (start cell, key length, kind), live entries only, and answers
 /// how many". The table is flat: three words a row. "Later rows stay, and on a refusal all rows do"; so do one or two
-/// words left over (point 40).
+/// words left over (decision 40 of docs/DECISIONS.md).
 pub fn get_keys(dir: &[u64], pool: &[u8], clock: u64, maximum: u64, rows: &mut [u64]) -> Answer {
     let table = rows.chunks_exact_mut(3);
     fill_rows(dir, pool, clock, maximum, table, |row, listed| {
@@ -113,7 +113,8 @@ fn fill_rows<Place>(
 /// "show shows the live text or else the caller's own notice, whichever slice holds it. Like get it takes a key; the
 /// notice comes for every refusal that get would give and for every other kind. It changes nothing."
 ///
-/// get's sweep takes dead entries only, so that looking without it finds the same live text (point 39).
+/// get's sweep takes dead entries only, so that looking without it finds the same live text (decision 39 of
+/// docs/DECISIONS.md).
 pub fn show<'a>(dir: &[u64], pool: &'a [u8], clock: u64, key: &[u8], notice: &'a [u8]) -> &'a [u8] {
     let read = get_stale(dir, pool, clock, key);
     if read.outcome == DONE && !read.stale && read.kind == kind::TEXT {

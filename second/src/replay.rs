@@ -1,6 +1,7 @@
 //! The replay lines of document 01: "One call a line, fields parted by tabs".
 //!
-//! The memory is a directory and a pool for P = 1,024, of which each `fresh` uses the front (points 53 and 54).
+//! The memory is a directory and a pool for P = 1,024, of which each `fresh` uses the front (decisions 53 and 54 of
+//! docs/DECISIONS.md).
 
 use crate::answer::{outcome::NOT_UNDERSTOOD, Answer};
 use crate::cells::{CELL, MOST_CELLS};
@@ -93,7 +94,7 @@ fn parse_boolean(field: &[u8]) -> Option<i64> {
     }
 }
 
-/// "only a weight may carry a minus, and not before 0." Signed 64 bits (point 48).
+/// "only a weight may carry a minus, and not before 0." Signed 64 bits (decision 48 of docs/DECISIONS.md).
 fn parse_weight(field: &[u8]) -> Option<i64> {
     match field.strip_prefix(b"-") {
         None => i64::try_from(parse_unsigned(field)?).ok(),

@@ -46,7 +46,7 @@ pub fn flush_all(dir: &mut [u64], pool: &[u8]) -> Answer {
 }
 
 /// "flush_expired: removes dead entries, longest unused first, up to a maximum (0 for all), and reports how many as
-/// removed." It passes over live entries (point 41).
+/// removed." It passes over live entries (decision 41 of docs/DECISIONS.md).
 pub fn flush_expired(dir: &mut [u64], pool: &mut [u8], clock: u64, maximum: u64) -> Answer {
     let mut cells = match check_clocked(dir, pool, clock) {
         Ok(cells) => cells,

@@ -28,6 +28,8 @@ pub const fn pool_bytes(cells: usize) -> usize {
 /// change nothing, only read (`&[u64]` and `&[u8]`). They may be kept, copied and handed in again: a memory that is
 /// not sound is refused by each call, and left as it is.
 ///
+/// A memory that other programs have mapped too is used under a lock of the caller's own, as the crate's page says.
+///
 /// A value that a call lends out of the pool cannot be held across a call that may change it:
 ///
 /// ```compile_fail,E0499

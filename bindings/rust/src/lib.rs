@@ -28,9 +28,18 @@
 //! * Any contents of the buffers, any lengths and any arguments are taken. Nothing panics.
 //! * `clock` is in milliseconds, and only this value counts. An entry is dead if it has an expiry and that is at or
 //!   below the clock. A lifetime of 0 is for ever.
+//! * All users of a memory use the same clock, Unix time in milliseconds: with two clocks one of them sweeps out what
+//!   is live for the other.
 //! * "Sweeps" means that up to two dead entries leave first at the long-unused end, up to the first live one.
 //! * Whenever an entry leaves, by whatever call, all its cells become zero at once, also if the call is then refused.
 //! * Numbers are as wide as in the library; `include/reefcandor.h` says the same for C.
+//!
+//! # A memory that is shared
+//!
+//! No two threads or programs may be in a call on the same memory at once, calls that only read included: the library
+//! takes no lock. Within a program the borrows of the two buffers see to that. They do not for a memory that other
+//! programs have mapped too, or that is made of raw pointers: there put every call, and every use of what it lends,
+//! under one lock of your own. Without one the memory is soon not sound, and a get can tell another key's value.
 
 #![warn(missing_docs)]
 

@@ -134,7 +134,7 @@ pub extern "C" fn reefcandor_show(
 
 // ---- stores
 
-// set: stores a value under a key, over an entry of that key or anew; nil deletes. Where there is no place it runs rounds, up to 30.
+// set: stores a value under a key, over an entry of that key or anew; nil deletes. Where there is no place it runs the fewest rounds that make one; if 30 would not, it runs none and answers 12.
 #[no_mangle]
 pub extern "C" fn reefcandor_set(
     dir: &mut [u64],

@@ -163,6 +163,6 @@ request-3 =
       incrs = λ dir pool clock key step initial. called clock key (incrChecks dir pool clock key initial) (incrFound clock key step initial) dir pool (λ removed m f. incr-found clock key step removed m initial f);
     }
 
--- "a 12 is never forced", nor is any other refusal
+-- a 12 is never forced, nor is any other refusal
 pub refused-unforced : {clock : ℕ} {taken : List Entry} {a : Answer} → ForcedExactly clock taken a → (numberOf (a .outcome) ≡ 0 → ⊥) → a .forced ≡ false
 refused-unforced {a = a} f n = no-true (a .forced) (λ t. n (f .only-then t .0))

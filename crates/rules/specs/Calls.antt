@@ -442,7 +442,7 @@ getKeysFlatCall dir pool clock maximum table = flatKeysOf (clockChecks dir pool 
 
 -- ---- bytes-at, show
 
--- "an offset and length in the pool are lent back as that part of the pool; a sum past its end gives the empty part at its start": where it starts, and its bytes
+-- "an offset and length in the pool are lent back as that part of the pool, not copied; a sum past its end gives the empty part at its start": where it starts, and its bytes
 unfoldable pub bytesStart : List ℕ → ℕ → ℕ → ℕ
 bytesStart pool offset size = cond (leb (offset + size) (length pool)) offset 0
 

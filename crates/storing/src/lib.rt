@@ -1,4 +1,4 @@
-// The stores: set, safe_set, add, safe_add, replace and incr. A name that ends in `_in` is for a caller whose memory is known to be sound.
+// The stores: set, safe_set, add, safe_add and replace. A name that ends in `_in` is for a caller whose memory is known to be sound.
 ghost use mathlib.Core.Path.{_≡_};
 ghost use mathlib.Core.Bool.{true};
 ghost use Prim.Native.Nat.{_+_, _*_, _<_};
@@ -19,7 +19,6 @@ use rules::Check;
 use rules::Entry;
 use rules::Fit;
 use rules::Found;
-use rules::Initial;
 use rules::Operation;
 use rules::Outcome;
 
@@ -302,7 +301,7 @@ pub fn store(
     )
 }
 
-// set: stores a value under a key, over an entry of that key or anew; nil deletes. Where there is no place it runs rounds, up to 30.
+// set: stores a value under a key, over an entry of that key or anew; nil deletes. Where there is no place it runs the fewest rounds that make one; if 30 would not, it runs none and answers 12.
 pub fn set(
     dir: &mut [u64],
     pool: &mut [u8],

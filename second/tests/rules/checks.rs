@@ -1,4 +1,5 @@
-//! "Checks run in the order of the numbers 1 to 7, those that the call's arguments allow": the table of point 1.
+//! "Checks run in the order of the numbers 1 to 7, those that the call's arguments allow": decision 1 of
+//! docs/DECISIONS.md.
 
 use crate::yard::*;
 use second::Answer;
@@ -18,7 +19,7 @@ fn value(arguments: &Arguments) -> Value<'static> {
     Value { kind: arguments.kind, number: 1, text: b"", lifetime: arguments.lifetime, flags: 1 }
 }
 
-/// Point 1: each call and the checks that it makes.
+/// Decision 1 of docs/DECISIONS.md: each call and the checks that it makes.
 const TABLE: [(&str, Call, &[u8]); 15] = [
     ("get", |yard, a| yard.get(a.clock, &a.key), &[1, 2, 3, 4]),
     ("get_stale", |yard, a| yard.get_stale(a.clock, &a.key), &[1, 2, 3, 4]),
@@ -160,7 +161,7 @@ fn nil_and_a_late_expiry() {
 fn incr_reads_the_lifetime_only_with_an_initial_number() {
     let mut yard = yard();
     let before = yard.clone();
-    // Point 3: also where the entry is live and the initial number has no use.
+    // Decision 3 of docs/DECISIONS.md: also where the entry is live and the initial number has no use.
     assert_eq!(yard.incr(u64::MAX, "a", 1, Some((1, 1))), refused(7, 0));
     assert_eq!(yard, before);
     assert_eq!(yard.incr(u64::MAX, "a", 1, None).outcome, 0);

@@ -1,5 +1,5 @@
 //! Equal keys in hand-made memories: "the most recently used one is meant", and "others with that key stay in the
-//! line" (point 31).
+//! line" (decision 31 of docs/DECISIONS.md).
 
 use crate::yard::*;
 use second::Answer;

@@ -76,7 +76,7 @@ fn an_initial_number_is_stored_as_a_plain_set_would() {
     assert_eq!(yard.incr(10, "e", 1, Some((1, 5))), Answer { kind: 3, number: 2, ..stored(1, 1) });
     assert_eq!(yard.order(), "e d c b");
     assert_eq!(yard.record(0), [15, 3, 0, 0, 1, 8]);
-    // A 12 holds neither kind nor number (point 27).
+    // A 12 holds neither kind nor number (decision 27 of docs/DECISIONS.md).
     let mut yard = Yard::full();
     assert_eq!(yard.incr(10, &"k".repeat(200), 1, Some((1, 5))), refused(12, 0));
     assert_eq!(yard, Yard::full());

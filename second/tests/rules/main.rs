@@ -1,5 +1,5 @@
 //! The rules of document 01, tried by example. One module for each theme; the numbers of plates (P1 to P12) are those
-//! of 01, the points those of the list of open points.
+//! of 01, the decisions those of docs/DECISIONS.md.
 
 mod checks;
 mod equal_keys;

@@ -25,7 +25,7 @@ fn add_and_replace_refuse_by_what_is_live() {
 
 #[test]
 fn overwrite_in_place_across_kinds() {
-    // A text of 8 bytes and a number, a text of one byte and a boolean (point 29).
+    // A text of 8 bytes and a number, a text of one byte and a boolean (decision 29 of docs/DECISIONS.md).
     let yard = Yard::with(4, &[text("front", 0, ""), text("t", 2, "8 bytes!").flags(7).expiry(99), text("u", 3, "x")]);
     let mut after = yard.clone();
     assert_eq!(after.set(10, "t", weight(-1)), DONE);
@@ -54,7 +54,8 @@ fn overwrite_of_a_dead_entry_in_place() {
 
 #[test]
 fn the_own_entry_of_another_length_makes_room() {
-    // Point 30: a at cells 1 and 2 is out before the search, so that three cells from 1 on are free.
+    // Decision 30 of docs/DECISIONS.md: a at cells 1 and 2 is out before the search, so that three cells from 1 on are
+    // free.
     for form in [Yard::set, Yard::safe_set, Yard::replace] {
         let mut yard = Yard::with(4, &[text("a", 1, &"x".repeat(40)), text("b", 0, "")]);
         assert_eq!(form(&mut yard, 10, "a", words(&[b'y'; 90])), DONE);
@@ -92,7 +93,7 @@ fn a_failed_store_keeps_no_old_tare() {
 fn a_boolean_is_1_for_any_number_but_0() {
     for (given, stored) in [(0, 0), (1, 1), (-1, 1), (2, 1), (i64::MIN, 1), (i64::MAX, 1), (256, 1)] {
         let mut yard = Yard::fresh(4);
-        // Point 33: the text isn't read.
+        // Decision 33 of docs/DECISIONS.md: the text isn't read.
         assert_eq!(yard.set(10, "b", Value { text: b"text", ..yes_no(given) }), DONE);
         assert_eq!(yard.record(0), [0, 1, 0, 0, 1, 1]);
         assert_eq!(yard.get(10, "b"), Answer { kind: 1, number: stored, offset: 1, length: 1, ..DONE });

@@ -65,7 +65,7 @@ fn until_nothing_is_left() {
 
 #[test]
 fn own_dead_entry_counts_only_if_swept() {
-    // Point 24. Within reach of the sweep it is swept and counted.
+    // Decision 24 of docs/DECISIONS.md. Within reach of the sweep it is swept and counted.
     let mut yard = three_dead();
     assert_eq!(yard.delete(1000, "c"), stored(0, 2));
     assert_eq!(yard.order(), "a b");
@@ -77,7 +77,8 @@ fn own_dead_entry_counts_only_if_swept() {
 
 #[test]
 fn a_swept_own_entry_is_placed_anew() {
-    // Point 28: d is swept, so that it isn't overwritten in place but takes the lowest free cell.
+    // Decision 28 of docs/DECISIONS.md: d is swept, so that it isn't overwritten in place but takes the lowest free
+    // cell.
     let mut yard = three_dead();
     assert_eq!(yard.set(1000, "d", weight(5)), stored(0, 2));
     assert_eq!(yard.order(), "d a b");
