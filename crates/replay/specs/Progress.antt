@@ -11,7 +11,7 @@ use Rattle.rules.specs.declared.Answer.{Answer}
 use Rattle.rules.specs.Layout.{part, put}
 use Rattle.laws.specs.LayoutLaws.{length-put}
 use Rattle.rules.specs.Soundness.{every}
-use Rattle.rules.specs.Replay.{Replay, LineCall, LineDone, linesOf, callOf, lineDone, lineWritten, Reached, reached, reachedIn, room}
+use Rattle.rules.specs.Replay.{Replay, LineCall, LineDone, linesOf, callOf, lineDone, lineWritten, reached, reachedIn, room}
 use Rattle.printing.specs.Room.{line-most}
 use Rattle.scanning.specs.Until.{other, Until}
 use Rattle.replay_calls.specs.Ready.{ReadyState, Runs}

@@ -15,7 +15,6 @@ use Rattle.laws.specs.LayoutLaws.{length-put}
 use Rattle.rules.specs.Replay.{linesFrom, linesOf, LineCall, callOf, Replay, lineDone, lineWritten, Written, linesDone, header, replayOf, room, Reached, reached, reachedOf}
 use Rattle.scanning.specs.Until.{other}
 use Rattle.lines.specs.LineLaws.{too-long}
-use Rattle.replay.specs.declared.Progress.{Progress}
 use Rattle.replay.specs.declared.ReplayAnswer.{ReplayAnswer}
 use Rattle.replay.specs.declared.ReplayAnswer.the-variants as Told
 use Rattle.replay_calls.specs.Front.{state}

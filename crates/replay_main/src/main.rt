@@ -1,5 +1,4 @@
 // Replays the lines of standard input, or of the files named as arguments, and writes the output to standard output. Lines are read in pieces, so that an input may have any size.
-ghost use mathlib.Core.Bool.{true};
 ghost use Prim.Native.Nat.{_+_, _-_, _≤_, _<_, _^_};
 ghost use lib.ListN.{length};
 ghost use Rattle.replay_calls.specs.Front.{Ready};
