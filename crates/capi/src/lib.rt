@@ -1,4 +1,6 @@
 // The calls for other languages, under C's names: numbers and slices only. A call writes its answer as ten words: outcome, rounds, removed, forced, stale, kind, flags, number (its bits), offset, length.
+#![tactic(auto)]
+
 ghost use Rattle.std.specs.Prelude.{◌≡◌};
 ghost use Rattle.rules.specs.Answer.{answer_words};
 ghost use Rattle.rules.specs.Soundness.{audit};

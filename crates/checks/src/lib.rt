@@ -1,4 +1,6 @@
 // Checks 1 to 7, in the order of their numbers, those that a call's arguments allow. The first that fails refuses the call.
+#![tactic(auto)]
+
 ghost use Rattle.std.specs.Prelude.{◌≡◌};
 ghost use Rattle.rules.specs.Checks.{◌then◌, check_clock, check_key, clock_checks, key_checks, expire_checks, check_lifetime, check_kind, check_nil, store_checks, check_initial, incr_checks};
 

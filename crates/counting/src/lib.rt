@@ -1,4 +1,6 @@
 // incr: a live number is added to, and a missing or dead one begins with an initial number where one is given.
+#![tactic(auto)]
+
 ghost use Rattle.std.specs.Prelude.{◌≡◌, true, ◌<◌, length};
 ghost use Rattle.rules.specs.Layout.{entries_of, memory_of};
 ghost use Rattle.rules.specs.LookUp.{look_up};

@@ -1,4 +1,6 @@
 // Decimal numbers of replay lines: read from a field, and written.
+#![tactic(auto)]
+
 ghost use Rattle.std.specs.Prelude.{◌≡◌, ◌+◌, ◌≤◌, length};
 ghost use Rattle.rules.specs.Layout.{put};
 ghost use Rattle.rules.specs.Replay.{number_said, weight_said, decimal, signed};

@@ -1,4 +1,6 @@
 // The directory's records, by index. Each change is one equation between the entries before and after; only the records concerned are moved.
+#![tactic(auto)]
+
 ghost use Rattle.std.specs.Prelude.{◌≡◌, ◌∷◌, map, ◌+◌, ◌*◌, ◌≤◌, ◌<◌, length, take, get_or};
 ghost use Rattle.rules.specs.Layout.{words, encode, entry_at, entries_of, none, Dir, without, to_front, replace_at, put};
 ghost use Rattle.rules.specs.Time.{with_expiry};

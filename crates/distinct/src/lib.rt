@@ -1,4 +1,6 @@
 // Whether all keys of a sound memory differ. Entries are chained by the hash of their key, so that a key is compared only with those in its own bucket.
+#![tactic(auto)]
+
 ghost use Rattle.std.specs.Prelude.{◌≡◌, ◌+◌, ◌<◌, ◌≤◌, true, length, replicate};
 ghost use Rattle.rules.specs.Layout.{entries_of};
 ghost use Rattle.rules.specs.Soundness.{sound, keys_differ};

@@ -1,4 +1,6 @@
 // Which entries have to leave for a new one, and where it goes. It is all decided before anything moves.
+#![tactic(auto)]
+
 ghost use Rattle.std.specs.Prelude.{◌≡◌, true, reverse, ◌+◌, ◌≤◌, ◌<◌, min, length};
 ghost use Rattle.rules.specs.Layout.{cells_of, need, entries_of, Dir, memory_of};
 ghost use Rattle.rules.specs.Recency.{line, sweep_count};

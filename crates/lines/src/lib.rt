@@ -1,4 +1,6 @@
 // What a replay line says: its fields, and the call that they make.
+#![tactic(auto)]
+
 ghost use Rattle.std.specs.Prelude.{◌≡◌, ◌≤◌, ◌<◌, length};
 ghost use Rattle.rules.specs.Replay.{number_said, value_said, call_of};
 ghost use Rattle.decimals.specs.Reading.{number};

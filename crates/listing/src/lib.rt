@@ -1,4 +1,6 @@
 // get_keys: a row for each live entry, most recent first; as plain numbers, and as rows.
+#![tactic(auto)]
+
 ghost use Rattle.std.specs.Prelude.{◌≡◌, true, [], ◌∷◌, ◌+◌, ◌*◌, ◌≤◌, min, length};
 ghost use Rattle.rules.specs.Layout.{entries_of, Dir, put, memory_of};
 ghost use Rattle.rules.specs.Soundness.{sound};

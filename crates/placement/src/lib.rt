@@ -1,4 +1,6 @@
 // The search for a place among cells that are marked with the round that frees them, 0 where they are free.
+#![tactic(auto)]
+
 ghost use Rattle.std.specs.Prelude.{◌≡◌, ◌≤◌, ◌<◌};
 ghost use Rattle.rules.specs.declared.Fit.TheVariants.{Nowhere};
 ghost use Rattle.placement.specs.Fitting.{FirstFit, fit_under};

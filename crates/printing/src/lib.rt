@@ -1,4 +1,6 @@
 // The output lines of replay: the header, and a line for each call.
+#![tactic(auto)]
+
 ghost use Rattle.std.specs.Prelude.{◌≡◌, ◌+◌, ◌≤◌, length};
 ghost use Rattle.rules.specs.Layout.{put};
 ghost use Rattle.rules.specs.Replay.{value_shown, line_written, header};

@@ -1,4 +1,6 @@
 // The readers: get, get_stale, ttl, bytes_at and show. A name that ends in `_in` is for a caller whose memory is known to be sound.
+#![tactic(auto)]
+
 ghost use Rattle.std.specs.Prelude.{◌≡◌, true, ◌+◌, length};
 ghost use Rattle.rules.specs.Layout.{memory_of};
 ghost use Rattle.rules.specs.LookUp.{look_up};

@@ -1,4 +1,6 @@
 // Replay: what lines do to a lent memory, one after the other.
+#![tactic(auto)]
+
 ghost use Rattle.std.specs.Prelude.{◌+◌, ◌≤◌, ◌<◌, ◌^◌, ◌≡◌, length};
 ghost use Rattle.rules.specs.Layout.{put};
 ghost use Rattle.rules.specs.Replay.{room};

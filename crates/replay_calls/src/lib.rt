@@ -1,4 +1,6 @@
 // A replay line's call, on the front of the lent memory.
+#![tactic(auto)]
+
 ghost use Rattle.std.specs.Prelude.{◌≡◌, ◌≤◌};
 ghost use Rattle.rules.specs.Calls.{get_call, delete_call, store_call};
 ghost use Rattle.rules.specs.Replay.{called, freshened};

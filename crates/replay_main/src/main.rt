@@ -1,4 +1,6 @@
 // Replays the lines of standard input, or of the files named as arguments, and writes the output to standard output. Lines are read in pieces, so that an input may have any size.
+#![tactic(auto)]
+
 ghost use Rattle.std.specs.Prelude.{◌+◌, ◌-◌, ◌≤◌, ◌<◌, ◌^◌, length};
 ghost use Rattle.replay_calls.specs.Front.{Ready};
 ghost use Rattle.rules.specs.Replay.{room};

@@ -1,4 +1,6 @@
 // A byte looked for.
+#![tactic(auto)]
+
 ghost use Rattle.std.specs.Prelude.{◌≤◌, length};
 ghost use Rattle.scanning.specs.Until.{Until};
 

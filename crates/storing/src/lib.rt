@@ -1,4 +1,6 @@
 // The stores: set, safe_set, add, safe_add and replace. A name that ends in `_in` is for a caller whose memory is known to be sound.
+#![tactic(auto)]
+
 ghost use Rattle.std.specs.Prelude.{◌≡◌, true, ◌+◌, ◌*◌, ◌<◌, length, get_or};
 ghost use Rattle.rules.specs.Layout.{entries_of, none, memory_of};
 ghost use Rattle.rules.specs.LookUp.{look_up};

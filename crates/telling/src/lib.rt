@@ -1,4 +1,6 @@
 // What an outcome tells, as plain numbers: the paper's fields, a signed number by its bits.
+#![tactic(auto)]
+
 ghost use Rattle.std.specs.Prelude.{◌≡◌, cond};
 ghost use Rattle.telling.specs.Told.{only_told, value_told, told_of, ReadBack};
 

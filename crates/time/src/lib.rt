@@ -1,4 +1,6 @@
 // Chapter "Time": dead entries, expiries, and what is left of a life.
+#![tactic(auto)]
+
 ghost use Rattle.std.specs.Prelude.{◌≡◌, false};
 ghost use Rattle.rules.specs.Time.{dead, expiry_of, too_late, time_left};
 

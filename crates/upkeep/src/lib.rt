@@ -1,4 +1,6 @@
 // Upkeep: delete, expire, flush_all and flush_expired. A name that ends in `_in` is for a caller whose memory is known to be sound.
+#![tactic(auto)]
+
 ghost use Rattle.std.specs.Prelude.{◌≡◌, true, false, ◌≤◌, ◌<◌, length};
 ghost use Rattle.rules.specs.Layout.{entries_of, Dir, memory_of, remove};
 ghost use Rattle.rules.specs.declared.Outcome.TheVariants.{Done};

@@ -1,4 +1,6 @@
 // Numbers and keys: a signed number as eight bytes, sums, the boolean byte, the cells that an entry needs, a number up to a maximum, and key equality in the pool.
+#![tactic(auto)]
+
 ghost use Rattle.std.specs.Prelude.{◌≡◌, ◌+◌, ◌*◌, ◌<◌, ◌≤◌, length, ◌+ℤ◌};
 ghost use Rattle.std.specs.Int.{w64};
 ghost use Rattle.std.proofs.Common.{to_z, of_z};
