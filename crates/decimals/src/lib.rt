@@ -11,14 +11,14 @@ const HALF: u64 = 9223372036854775808;
 const TOP: u64 = 18446744073709551615;
 
 // What a field says: a number, or nothing that is understood.
-#[derive(Drop)]
+#[derive(Clone, Copy)]
 pub enum Number {
     Is(u64),
     Unread,
 }
 
 // What a weight's field says.
-#[derive(Drop)]
+#[derive(Clone, Copy)]
 pub enum Weight {
     Is(i64),
     Unread,

@@ -46,7 +46,7 @@ pub fn sweep(dir: &mut [u64], pool: &mut [u8], clock: u64) -> usize
 }
 
 // The rounds begun, 31 for any more, and how many dead entries the last of them still takes.
-#[derive(Drop)]
+#[derive(Clone, Copy)]
 struct Turn {
     round: u8,
     more: u8,
@@ -125,7 +125,7 @@ fn mark_line(marks: &mut [u8], dir: &[u64], clock: u64)
 }
 
 // How many entries leave, and whether one of them is live.
-#[derive(Drop)]
+#[derive(Clone, Copy)]
 struct Leavers {
     gone: usize,
     live: bool,
@@ -158,7 +158,7 @@ fn find_leavers(dir: &[u64], clock: u64, limit: usize) -> Leavers
 }
 
 // Where a new entry goes, after how many rounds, how many entries those take, and whether one of them is live.
-#[derive(Drop)]
+#[derive(Clone, Copy)]
 pub struct Choice {
     pub fit: Fit,
     pub ran: usize,

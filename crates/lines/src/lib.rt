@@ -11,7 +11,7 @@ use decimals::{Number, Weight};
 const TOP: u64 = 18446744073709551615;
 
 // A call that a line makes. Keys and texts stand in the line, from a first byte to behind a last one; the key of a get or delete ends with the line.
-#[derive(Drop)]
+#[derive(Clone, Copy)]
 pub enum Call {
     Fresh {
         cells: usize,
@@ -39,7 +39,7 @@ pub enum Call {
 }
 
 // What a value's field says: a number, and a text that stands in the line, from a first byte to behind a last one.
-#[derive(Drop)]
+#[derive(Clone, Copy)]
 enum Value {
     Is(i64, usize, usize),
     Unread,

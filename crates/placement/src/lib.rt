@@ -9,7 +9,7 @@ ghost use Rattle.placement.specs.Least.{LeastLimit, LeastPlace};
 use rules::Fit;
 
 // Where the search for a place ended, and how many looks at a cell it took.
-#[derive(Drop)]
+#[derive(Clone, Copy)]
 pub struct Looked {
     pub fit: Fit,
     pub looks: usize,
@@ -94,7 +94,7 @@ fn least_limit(marks: &[u8], need: usize, most: usize) -> usize
 }
 
 // A place, and the limit at which it was found.
-#[derive(Drop)]
+#[derive(Clone, Copy)]
 pub struct Least {
     pub fit: Fit,
     pub limit: usize,

@@ -9,7 +9,7 @@ ghost use Rattle.replay.specs.Progress.{Lined, Done};
 ghost use Rattle.replay.specs.Whole.{held, Behind, ReplayGives};
 
 // What one line leaves: how many cells are in use, and where its output ends.
-#[derive(Drop)]
+#[derive(Clone, Copy)]
 struct Step {
     cells: usize,
     end: usize,
@@ -39,7 +39,7 @@ fn do_line(
 }
 
 // How far a run came: the cells in use, the number of lines done in all, the bytes of the input that are done, and the bytes of the output.
-#[derive(Drop)]
+#[derive(Clone, Copy)]
 pub struct Progress {
     pub cells: usize,
     pub lines: u64,
@@ -122,7 +122,7 @@ fn run_all(dir: &mut [u64], pool: &mut [u8], input: &[u8], out: &mut [u8]) -> Pr
 }
 
 // What replay answers: how far it came, or that the output has no room for the header and a line.
-#[derive(Drop)]
+#[derive(Clone, Copy)]
 pub enum ReplayAnswer {
     Done(Progress),
     OutputTooShort,

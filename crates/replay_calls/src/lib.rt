@@ -92,7 +92,7 @@ fn do_set(
 }
 
 // What a line leaves: how many cells are in use, and its answer.
-#[derive(Drop)]
+#[derive(Clone, Copy)]
 pub struct Ran {
     pub cells: usize,
     pub answer: Answer,

@@ -11,7 +11,7 @@ use libc::{STDIN_FILENO, STDOUT_FILENO};
 const LINES: u64 = 9223372036854775808;
 
 // How far a piece of input came: the cells in use, the lines done in all, the bytes of the piece that are done, and whether the output could be written.
-#[derive(Drop)]
+#[derive(Clone, Copy)]
 struct Pumped {
     cells: usize,
     lines: u64,
@@ -66,7 +66,7 @@ fn pump(
 }
 
 // Where the replay stands between pieces of input: the cells in use, the lines done, the bytes of a line that wait for its end, and whether there is more to read and the output can be written.
-#[derive(Drop)]
+#[derive(Clone, Copy)]
 struct Stand {
     cells: usize,
     lines: u64,

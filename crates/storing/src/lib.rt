@@ -17,7 +17,7 @@ ghost use Rattle.storing.specs.Placing.{Fits};
 use rules::{Answer, Check, Entry, Fit, Found, Operation, Outcome};
 
 // How a value is to be stored under a key: its expiry, kind and flags; the rounds that may run; what to tell where it is stored; and what the sweep has removed.
-#[derive(Drop)]
+#[derive(Clone, Copy)]
 pub struct Order {
     pub expiry: u64,
     pub kind: u64,

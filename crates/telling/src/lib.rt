@@ -8,7 +8,7 @@ use rules::Outcome;
 use values::to_bits;
 
 // An answer number, and what stands beside it: 0 where there is nothing to tell.
-#[derive(Drop)]
+#[derive(Clone, Copy)]
 pub struct Told {
     pub answer: u64,
     pub kind: u64,

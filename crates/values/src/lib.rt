@@ -14,7 +14,7 @@ use rules::Entry;
 const HALF: u64 = 9223372036854775808;
 
 // The sum of two numbers, where it is a signed number of 64 bits.
-#[derive(Drop)]
+#[derive(Clone, Copy)]
 pub enum Sum {
     Is(i64),
     OutOfRange,

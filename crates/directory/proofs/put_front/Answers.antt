@@ -1,0 +1,14 @@
+-- `directory::put_front` meets its contract.
+use mathlib.Core.Path.{ap, ◌∙◌}
+use mathlib.Core.List.{List}
+use Prim.Native.Nat.{ℕ}
+use borrow.Author.Rules.{rules}
+use Rattle.rules.specs.Layout.{words, put}
+use Rattle.directory.specs.Changes.{fronted}
+use Rattle.directory.proofs.put_front.Goals as goal
+
+pub returns : goal.returns
+returns c = let e = c.args.e in
+    c.write.ensures
+    ∙ ap (λ (y : List ℕ). put y 2 (words e)) c.move_up.ensures
+    ∙ fronted c.args.dir.now c.args.i c.requires.dir c.requires.i_in_bounds e

@@ -1,0 +1,12 @@
+-- `scanning::find` meets its contract. The loop's invariant: the byte stands nowhere from `from` to before i.
+use Rattle.scanning.specs.UntilLaws.{Passed, passed_none, passed_more, passed_byte, passed_all}
+use Prim.Native.Nat.{◌-◌}
+use native.Mathlib.Omega.{arith}
+use lib.ListN.{length}
+use Rattle.scanning.proofs.find.Given as goal
+
+abbrev pub invariant-loop-i : goal.invariant-loop-i
+invariant-loop-i l = Passed l.byte l.bytes l.from l.i
+
+abbrev pub decreases-loop-i : goal.decreases-loop-i
+decreases-loop-i l = length l.bytes - l.i

@@ -1,0 +1,13 @@
+-- `words::copy_in` meets its contract. The loop's invariant: the first j bytes are written.
+use mathlib.Core.Path.{refl}
+use Prim.Native.Nat.{◌-◌}
+use native.Mathlib.Omega.{arith}
+use lib.ListN.{length}
+use Rattle.words.specs.Writing.{Written, written_none, written_more, written_all}
+use Rattle.words.proofs.copy_in.Given as goal
+
+abbrev pub invariant-loop-j : goal.invariant-loop-j
+invariant-loop-j l = Written l.initial.d l.at l.s l.j l.d
+
+abbrev pub decreases-loop-j : goal.decreases-loop-j
+decreases-loop-j l = length l.s - l.j

@@ -1,0 +1,14 @@
+-- `words::move_down` meets its contract. The loop's invariant: the first j words are written, and those past them are as they were.
+use mathlib.Core.Path.{◌≡◌, sym, ap, ◌∙◌}
+use Prim.Native.Nat.{ℕ, ◌+◌, ◌-◌}
+use native.Mathlib.Omega.{arith}
+use lib.ListN.{take, drop, get_or}
+use Rattle.words.specs.PutLaws.{length_part, get_d_part}
+use Rattle.words.specs.Writing.{Written, written_none, written_more, written_all, written_past}
+use Rattle.words.proofs.move_down.Given as goal
+
+abbrev pub invariant-loop-j : goal.invariant-loop-j
+invariant-loop-j l = Written l.initial.d l.at (take l.count (drop (l.at + l.by) l.initial.d)) l.j l.d
+
+abbrev pub decreases-loop-j : goal.decreases-loop-j
+decreases-loop-j l = l.count - l.j
