@@ -1,0 +1,13 @@
+-- `decimals::write_digits` meets its contract. The loop's invariant: the first j digits are still to be written, and are the lowest of the rest.
+use Rattle.rules.specs.Replay.{decimal}
+use Rattle.words.specs.Writing.{Unwritten, unwritten_all, unwritten_less, unwritten_none}
+use Rattle.decimals.specs.DigitLaws.{Unsaid, unsaid_all, unsaid_digit, unsaid_less}
+use native.Mathlib.Omega.{arith}
+use borrow.Author.Rules.{rules}
+use Rattle.decimals.proofs.write_digits.Given as goal
+
+abbrev pub invariant-loop-j : goal.invariant-loop-j
+invariant-loop-j l = Unwritten l.initial.out l.at (decimal l.n) l.j l.out × Unsaid (decimal l.n) l.j l.rest
+
+abbrev pub decreases-loop-j : goal.decreases-loop-j
+decreases-loop-j l = l.j

@@ -1,0 +1,12 @@
+-- `eviction::mark_from` meets its contract. The loop has written the mark into the cells up to c.
+use mathlib.Core.Path.{◌≡◌}
+use Prim.Native.Nat.{◌-◌, ◌≤◌}
+use native.Mathlib.Omega.{arith}
+use Rattle.laws.specs.Marks.{Written, written_none, written_more}
+use Rattle.eviction.proofs.mark_from.Given as goal
+
+abbrev pub invariant-loop-c : goal.invariant-loop-c
+invariant-loop-c l = (l.start ≤ l.c) × (l.c ≤ l.end) × Written l.initial.marks l.marks l.start l.c l.mark
+
+abbrev pub decreases-loop-c : goal.decreases-loop-c
+decreases-loop-c l = l.end - l.c

@@ -1,0 +1,18 @@
+-- `listing::get_keys_flat` meets its contract.
+use Rattle.rules.specs.Calls.{get_keys_flat_call}
+use Rattle.laws.specs.ChecksLaws.{clock_passed}
+use Rattle.listing.specs.Listings.{flat_refused, flat_passed}
+use mathlib.Core.Path.{sym, ◌∙◌}
+use borrow.Author.Rules.{rules}
+use Rattle.listing.proofs.get_keys_flat.Goals as goal
+
+pub returns-in-Refused : goal.returns-in-Refused
+unfolding get_keys_flat_call
+returns-in-Refused c = flat_refused _ _ _ _ _ _ _ (sym c.of_clock-check.ensures ∙ c.in-Refused.is) c.plain.ensures
+
+pub get_keys_flat_in-requires : goal.get_keys_flat_in-requires
+get_keys_flat_in-requires c = clock_passed _ _ _ (sym c.in_default.is ∙ c.of_clock-check.ensures)
+
+pub returns : goal.returns
+unfolding get_keys_flat_call
+returns c = flat_passed _ _ _ _ _ _ (sym c.of_clock-check.ensures ∙ c.in_default.is) c.get_keys_flat_in.ensures

@@ -1,0 +1,18 @@
+-- `reading::get` meets its contract.
+use mathlib.Core.Path.{sym, ◌∙◌}
+use borrow.Author.Rules.{rules}
+use Rattle.rules.specs.Calls.{get_call}
+use Rattle.laws.specs.ChecksLaws.{key_passed}
+use Rattle.laws.specs.CallsLaws.{gave_refused, gave_passed}
+use Rattle.reading.proofs.get.Goals as goal
+
+pub returns-in-Refused : goal.returns-in-Refused
+unfolding get_call
+returns-in-Refused c = gave_refused _ _ _ _ _ _ (sym c.of_key-check.ensures ∙ c.in-Refused.is) c.plain.ensures
+
+pub get_in-requires : goal.get_in-requires
+get_in-requires c = key_passed _ _ _ _ (sym c.in_default.is ∙ c.of_key-check.ensures)
+
+pub returns : goal.returns
+unfolding get_call
+returns c = gave_passed _ _ _ _ _ _ _ (sym c.of_key-check.ensures ∙ c.in_default.is) c.get_in.ensures

@@ -1,0 +1,18 @@
+-- `reading::ttl` meets its contract.
+use mathlib.Core.Path.{sym, ◌∙◌}
+use borrow.Author.Rules.{rules}
+use Rattle.rules.specs.Calls.{ttl_call}
+use Rattle.laws.specs.ChecksLaws.{key_passed}
+use Rattle.laws.specs.CallsLaws.{ask_refused, ask_passed}
+use Rattle.reading.proofs.ttl.Goals as goal
+
+pub returns-in-Refused : goal.returns-in-Refused
+unfolding ttl_call
+returns-in-Refused c = c.plain.ensures ∙ sym (ask_refused _ _ _ _ _ (sym c.of_key-check.ensures ∙ c.in-Refused.is))
+
+pub ttl_in-requires : goal.ttl_in-requires
+ttl_in-requires c = key_passed _ _ _ _ (sym c.in_default.is ∙ c.of_key-check.ensures)
+
+pub returns : goal.returns
+unfolding ttl_call
+returns c = c.ttl_in.ensures ∙ sym (ask_passed _ _ _ _ (sym c.of_key-check.ensures ∙ c.in_default.is))

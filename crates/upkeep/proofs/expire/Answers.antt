@@ -1,0 +1,18 @@
+-- `upkeep::expire` meets its contract.
+use mathlib.Core.Path.{sym, ◌∙◌}
+use borrow.Author.Rules.{rules}
+use Rattle.rules.specs.Calls.{expire_call}
+use Rattle.laws.specs.ChecksLaws.{expire_passed, expire_in_time}
+use Rattle.laws.specs.CallsLaws.{gave_refused, gave_passed}
+use Rattle.upkeep.proofs.expire.Goals as goal
+
+pub returns-in-Refused : goal.returns-in-Refused
+unfolding expire_call
+returns-in-Refused c = gave_refused _ _ _ _ _ _ (sym c.of_expire-check.ensures ∙ c.in-Refused.is) c.plain.ensures
+
+pub expire_in-requires : goal.expire_in-requires
+expire_in-requires c = record { pool_value = expire_passed _ _ _ _ _ (sym c.in_default.is ∙ c.of_expire-check.ensures); lifetime_value = expire_in_time _ _ _ _ _ (sym c.in_default.is ∙ c.of_expire-check.ensures) }
+
+pub returns : goal.returns
+unfolding expire_call
+returns c = gave_passed _ _ _ _ _ _ _ (sym c.of_expire-check.ensures ∙ c.in_default.is) c.expire_in.ensures
