@@ -50,7 +50,7 @@ module _ (op : Operation) (clock kind : ℕ) (number : ℤ) (text : List ℕ) (l
   module _ (key : List ℕ) {swept : ℕ} {o : Order} {value : List ℕ} (h : Ordered swept o value) where
     item_is : item_from o key value ≡ item_of clock key kind number text lifetime flags
     unfolding item_of
-    item_is = rw (h.of_expiry, h.of_kind, h.of_flags, h.of-value)
+    item_is = rw (h.of_expiry, h.of_kind, h.of_flags, h.of_value)
 
     pub storable : FineItem (item_of clock key kind number text lifetime flags) → swept ≤ 2 → Storable o key value
     storable f s =

@@ -1,0 +1,18 @@
+-- `storing::admits_add` meets its contract.
+use Rattle.rules.specs.declared.Operation.TheVariants.{Add}
+use mathlib.Core.Path.{sym, ap}
+use Rattle.rules.specs.Calls.{admits}
+use borrow.Author.Rules.{rules}
+use Rattle.storing.proofs.admits_add.Goals as goal
+
+pub returns-in-Live : goal.returns-in-Live
+unfolding admits
+returns-in-Live c = sym (ap (admits Add) c.in-Live.is)
+
+pub returns-in-Dead : goal.returns-in-Dead
+unfolding admits
+returns-in-Dead c = sym (ap (admits Add) c.in-Dead.is)
+
+pub returns-in-Missing : goal.returns-in-Missing
+unfolding admits
+returns-in-Missing c = sym (ap (admits Add) c.in-Missing.is)
