@@ -171,12 +171,12 @@ module _ (dir pool : List ℕ) (clock : ℕ) (key : List ℕ) (initial : Initial
   keyed = then_first (key_checks dir pool clock key) (check_initial clock initial) p
 
   pub incr_sound : sound dir pool ≡ true
-  incr_sound = checks.key-passed dir pool clock key keyed
+  incr_sound = checks.key_passed dir pool clock key keyed
 
   pub countable : (removed : ℕ) → removed ≤ 2 → Countable clock key initial removed
   unfolding incr_checks
   countable removed r =
-      let k : (1 ≤ length key) × (length key ≤ 65535) = checks.key-lengths dir pool clock key keyed in
+      let k : (1 ≤ length key) × (length key ≤ 65535) = checks.key_lengths dir pool clock key keyed in
       record {
         some_key = k.0;
         short_key = k.1;
