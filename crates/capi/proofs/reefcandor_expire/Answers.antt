@@ -1,0 +1,7 @@
+-- `capi::reefcandor_expire` meets its contract.
+use Rattle.capi.specs.Exports.{handed}
+use borrow.Author.Rules.{rules}
+use Rattle.capi.proofs.reefcandor_expire.Goals as goal
+
+pub returns : goal.returns
+returns c = handed c.expire.ensures c.answer_words.ensures

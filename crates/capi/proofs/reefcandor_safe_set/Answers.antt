@@ -1,0 +1,7 @@
+-- `capi::reefcandor_safe_set` meets its contract.
+use Rattle.capi.specs.Exports.{handed_store}
+use borrow.Author.Rules.{rules}
+use Rattle.capi.proofs.reefcandor_safe_set.Goals as goal
+
+pub returns : goal.returns
+returns c = handed_store _ _ _ _ _ _ _ _ _ _ c.ranges.number c.safe_set.ensures.result c.answer_words.ensures
