@@ -94,7 +94,7 @@ pub fn get_stale(dir: &[u64], pool: &[u8], clock: u64, key: &[u8]) -> Answer
 {
     let check = checks::of_key(dir, pool, clock, key);
     if let Check::Refused(o) = check {
-        return Answer::plain(o, 0);
+        return Answer::plain(o, 0); // nothing is looked up
     }
     get_stale_in(dir, pool, clock, key)
 }
@@ -118,7 +118,7 @@ pub fn ttl(dir: &[u64], pool: &[u8], clock: u64, key: &[u8]) -> Answer
 {
     let check = checks::of_key(dir, pool, clock, key);
     if let Check::Refused(o) = check {
-        return Answer::plain(o, 0);
+        return Answer::plain(o, 0); // no time is told
     }
     ttl_in(dir, pool, clock, key)
 }

@@ -1,6 +1,5 @@
 -- `capi::answer_words` meets its contract.
 use Rattle.capi.specs.Words.{words_told}
-use borrow.Author.Rules.{rules}
 use Rattle.capi.proofs.answer_words.Goals as goal
 
 pub returns : goal.returns

@@ -1,6 +1,5 @@
 -- `capi::reefcandor_expire` meets its contract.
 use Rattle.capi.specs.Exports.{handed}
-use borrow.Author.Rules.{rules}
 use Rattle.capi.proofs.reefcandor_expire.Goals as goal
 
 pub returns : goal.returns

@@ -1,6 +1,5 @@
 -- `capi::reefcandor_flush_expired` meets its contract.
 use Rattle.capi.specs.Exports.{handed}
-use borrow.Author.Rules.{rules}
 use Rattle.capi.proofs.reefcandor_flush_expired.Goals as goal
 
 pub returns : goal.returns

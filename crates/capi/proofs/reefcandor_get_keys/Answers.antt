@@ -1,6 +1,5 @@
 -- `capi::reefcandor_get_keys` meets its contract.
 use Rattle.capi.specs.Exports.{handed_listing}
-use borrow.Author.Rules.{rules}
 use Rattle.capi.proofs.reefcandor_get_keys.Goals as goal
 
 pub returns : goal.returns

@@ -1,7 +1,6 @@
 -- `capi::reefcandor_get_stale` meets its contract.
 use Rattle.rules.specs.Answer.{answer_words}
 use mathlib.Core.Path.{ap, ◌∙◌}
-use borrow.Author.Rules.{rules}
 use Rattle.capi.proofs.reefcandor_get_stale.Goals as goal
 
 pub returns : goal.returns

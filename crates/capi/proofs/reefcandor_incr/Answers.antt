@@ -1,6 +1,5 @@
 -- `capi::reefcandor_incr` meets its contract.
 use Rattle.capi.specs.Exports.{handed_incr}
-use borrow.Author.Rules.{rules}
 use Rattle.capi.proofs.reefcandor_incr.Goals as goal
 
 pub returns : goal.returns

@@ -1,6 +1,5 @@
 -- `capi::reefcandor_replace` meets its contract.
 use Rattle.capi.specs.Exports.{handed_store}
-use borrow.Author.Rules.{rules}
 use Rattle.capi.proofs.reefcandor_replace.Goals as goal
 
 pub returns : goal.returns

@@ -1,6 +1,5 @@
 -- `capi::reefcandor_safe_add` meets its contract.
 use Rattle.capi.specs.Exports.{handed_store}
-use borrow.Author.Rules.{rules}
 use Rattle.capi.proofs.reefcandor_safe_add.Goals as goal
 
 pub returns : goal.returns

@@ -1,6 +1,5 @@
 -- `capi::reefcandor_safe_set` meets its contract.
 use Rattle.capi.specs.Exports.{handed_store}
-use borrow.Author.Rules.{rules}
 use Rattle.capi.proofs.reefcandor_safe_set.Goals as goal
 
 pub returns : goal.returns

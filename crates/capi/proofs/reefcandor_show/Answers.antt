@@ -1,10 +1,8 @@
 -- `capi::reefcandor_show` meets its contract.
 use Rattle.laws.specs.Buffers.{given_sound}
-use Rattle.laws.specs.Meant.{no_live}
 use Rattle.reading.specs.Lent.{show_inside, show_sound, show_there}
 use Rattle.capi.specs.Places.{show_nowhere, show_here}
 use native.Mathlib.Omega.{arith}
-use borrow.Author.Rules.{rules}
 use Rattle.capi.proofs.reefcandor_show.Goals as goal
 
 pub returns-in_default : goal.returns-in_default

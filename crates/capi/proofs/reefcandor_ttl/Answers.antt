@@ -1,7 +1,6 @@
 -- `capi::reefcandor_ttl` meets its contract.
 use Rattle.rules.specs.Answer.{answer_words}
 use mathlib.Core.Path.{ap, ◌∙◌}
-use borrow.Author.Rules.{rules}
 use Rattle.capi.proofs.reefcandor_ttl.Goals as goal
 
 pub returns : goal.returns

@@ -1,7 +1,6 @@
 -- `checks::key_arguments` meets its contract.
 use mathlib.Core.Path.{sym, ◌∙◌}
 use Rattle.laws.specs.ChecksLaws.{then_stop, then_on, key_empty, key_long, key_fits}
-use borrow.Author.Rules.{rules}
 use Rattle.checks.proofs.key_arguments.Goals as goal
 
 pub returns-in-Refused : goal.returns-in-Refused

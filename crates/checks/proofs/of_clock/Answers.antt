@@ -2,7 +2,6 @@
 use Rattle.std.proofs.Common.{ap, not}
 use Rattle.rules.specs.Checks.{clock_checks}
 use Rattle.laws.specs.ChecksLaws.{then_stop, then_on, sound_not, sound_yes}
-use borrow.Author.Rules.{rules}
 use Rattle.checks.proofs.of_clock.Goals as goal
 
 pub returns-then-not-is_sound : goal.returns-then-not-is_sound

@@ -2,7 +2,6 @@
 use mathlib.Core.Path.{sym, ◌∙◌}
 use Rattle.rules.specs.Checks.{expire_checks}
 use Rattle.laws.specs.ChecksLaws.{then_stop, then_on}
-use borrow.Author.Rules.{rules}
 use Rattle.checks.proofs.of_expire.Goals as goal
 
 pub returns-in-Refused : goal.returns-in-Refused

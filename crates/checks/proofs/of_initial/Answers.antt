@@ -1,7 +1,6 @@
 -- `checks::of_initial` meets its contract.
 use mathlib.Core.Path.{sym, ap, ◌∙◌}
 use Rattle.rules.specs.Checks.{check_initial}
-use borrow.Author.Rules.{rules}
 use Rattle.checks.proofs.of_initial.Goals as goal
 
 pub returns-in-Given : goal.returns-in-Given

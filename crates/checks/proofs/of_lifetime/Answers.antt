@@ -1,6 +1,5 @@
 -- `checks::of_lifetime` meets its contract.
 use Rattle.laws.specs.ChecksLaws.{lifetime_late, lifetime_fits}
-use borrow.Author.Rules.{rules}
 use Rattle.checks.proofs.of_lifetime.Goals as goal
 
 pub returns-then-is_too_late : goal.returns-then-is_too_late

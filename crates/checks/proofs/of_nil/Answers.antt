@@ -2,7 +2,6 @@
 use mathlib.Core.Path.{refl}
 use Rattle.rules.specs.Checks.{takes_nil}
 use Rattle.laws.specs.ChecksLaws.{nil_not, nil_taken, nil_refused}
-use borrow.Author.Rules.{rules}
 use Rattle.checks.proofs.of_nil.Goals as goal
 
 pub returns-then-kind-ne0 : goal.returns-then-kind-ne0

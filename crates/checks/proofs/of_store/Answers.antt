@@ -3,8 +3,6 @@ use Rattle.std.proofs.Common.{not}
 use mathlib.Core.Path.{sym, ◌∙◌, ap}
 use Rattle.rules.specs.Checks.{store_checks, key_checks, clock_checks}
 use Rattle.laws.specs.ChecksLaws.{then_stop, sound_not, store_behind}
-use borrow.Author.Tests.{not-false}
-use borrow.Author.Rules.{rules}
 use Rattle.checks.proofs.of_store.Goals as goal
 
 pub returns-then-not-is_sound : goal.returns-then-not-is_sound

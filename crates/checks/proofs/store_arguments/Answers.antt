@@ -1,7 +1,6 @@
 -- `checks::store_arguments` meets its contract.
 use mathlib.Core.Path.{sym, ◌∙◌}
 use Rattle.laws.specs.ChecksLaws.{then_stop, then_on}
-use borrow.Author.Rules.{rules}
 use Rattle.checks.proofs.store_arguments.Goals as goal
 
 pub returns-in-Refused : goal.returns-in-Refused

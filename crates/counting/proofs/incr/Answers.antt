@@ -1,7 +1,6 @@
 -- `counting::incr` meets its contract.
 use mathlib.Core.Path.{sym, ◌∙◌}
 use Rattle.counting.specs.CountingLaws.{incr_refused, incr_done}
-use borrow.Author.Rules.{rules}
 use Rattle.counting.proofs.incr.Goals as goal
 
 pub returns-in-Refused : goal.returns-in-Refused

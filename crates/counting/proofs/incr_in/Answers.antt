@@ -4,7 +4,6 @@ use Rattle.rules.specs.Calls.{incr_work, incr_found}
 use Rattle.rules.specs.LookUp.{look_up}
 use Rattle.eviction.specs.Swept.{still_sound, behind_sweep}
 use Rattle.storing.specs.StoreCallLaws.{swept_two}
-use borrow.Author.Rules.{rules}
 use Rattle.counting.proofs.incr_in.Goals as goal
 
 pub sweep-removed-requires : goal.sweep-removed-requires

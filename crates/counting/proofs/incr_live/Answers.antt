@@ -8,7 +8,6 @@ use Rattle.laws.specs.NumberLaws.{length_number}
 use Rattle.laws.specs.Buffers.{given_sound, entry_inside}
 use Rattle.values.specs.Bits.{held_is}
 use native.Mathlib.Omega.{arith}
-use borrow.Author.Rules.{rules}
 use Rattle.counting.proofs.incr_live.Goals as goal
 
 pub record_at-e-requires : goal.record_at-e-requires

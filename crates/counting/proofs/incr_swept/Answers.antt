@@ -1,7 +1,6 @@
 -- `counting::incr_swept` meets its contract.
 use Rattle.counting.specs.CountingLaws.{step_held, step_held_initial, found_live, found_else}
-use Rattle.laws.specs.Meant.{live_there, no_live}
-use borrow.Author.Rules.{rules}
+use Rattle.laws.specs.Meant.{live_there}
 use Rattle.counting.proofs.incr_swept.Goals as goal
 
 pub look_up-found-requires : goal.look_up-found-requires

@@ -3,7 +3,6 @@ use Rattle.decimals.specs.Reading.{number}
 use Rattle.decimals.specs.ReadingLaws.{number_empty, number_one, number_zero, number_run}
 use mathlib.Core.Path.{◌∙◌}
 use native.Mathlib.Omega.{arith}
-use borrow.Author.Rules.{rules}
 use Rattle.decimals.proofs.read_number.Goals as goal
 
 pub returns-then-field-eq0 : goal.returns-then-field-eq0

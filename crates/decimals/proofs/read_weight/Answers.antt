@@ -5,7 +5,6 @@ use Rattle.decimals.specs.Reading.{weight}
 use Rattle.decimals.specs.WeightLaws.{number_told, minus_unread, minus_zero, minus_is, plus_unread, plus_is, weight_empty, weight_minus, weight_plus, bits_minus, bits_plus}
 use mathlib.Core.Path.{sym, ap, ◌∙◌}
 use native.Mathlib.Omega.{arith}
-use borrow.Author.Rules.{rules}
 use Rattle.decimals.proofs.read_weight.Goals as goal
 
 pub returns-then-field-eq0 : goal.returns-then-field-eq0

@@ -1,10 +1,7 @@
 -- `decimals::run` meets its contract. The loop's invariant: the bytes before i are digits, and n is their number.
 use Rattle.decimals.specs.Reading.{number}
-use Rattle.decimals.specs.ReadingLaws.{Run, run_none, run_low, run_high, run_stop, run_more, run_done}
-use Prim.Native.Nat.{◌-◌}
+use Rattle.decimals.specs.ReadingLaws.{run_none, run_low, run_high, run_stop, run_more, run_done}
 use native.Mathlib.Omega.{arith}
-use lib.ListN.{length}
-use borrow.Author.Rules.{rules}
 use Rattle.decimals.proofs.run.Goals as goal
 
 pub loop-i-init : goal.loop-i-init

@@ -1,6 +1,5 @@
 -- `decimals::size` meets its contract. The loop's invariant: the digits of the rest are still to be counted, one of them is already.
-use Rattle.decimals.specs.DigitLaws.{Counted, counted_none, counted_more, counted_done}
-use native.Mathlib.Omega.{arith}
+use Rattle.decimals.specs.DigitLaws.{Counted}
 use Rattle.decimals.proofs.size.Given as goal
 
 abbrev pub invariant-loop-rest : goal.invariant-loop-rest

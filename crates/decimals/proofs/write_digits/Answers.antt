@@ -1,9 +1,7 @@
 -- `decimals::write_digits` meets its contract. The loop's invariant: the first j digits are still to be written, and are the lowest of the rest.
-use Rattle.rules.specs.Replay.{decimal}
-use Rattle.words.specs.Writing.{Unwritten, unwritten_all, unwritten_less, unwritten_none}
-use Rattle.decimals.specs.DigitLaws.{Unsaid, unsaid_all, unsaid_digit, unsaid_less}
+use Rattle.words.specs.Writing.{unwritten_all, unwritten_less, unwritten_none}
+use Rattle.decimals.specs.DigitLaws.{unsaid_all, unsaid_digit, unsaid_less}
 use native.Mathlib.Omega.{arith}
-use borrow.Author.Rules.{rules}
 use Rattle.decimals.proofs.write_digits.Goals as goal
 
 pub loop-j-init : goal.loop-j-init

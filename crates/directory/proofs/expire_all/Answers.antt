@@ -1,9 +1,6 @@
 -- `directory::expire_all` meets its contract. The loop's invariant: the entries whose words stand before p have the new expiry.
-use Prim.Native.Nat.{◌-◌}
 use native.Mathlib.Omega.{arith}
-use lib.ListN.{length}
-use Rattle.rules.specs.Layout.{entries_of}
-use Rattle.directory.specs.Expiring.{Expired, expired_none, expired_more, expired_all}
+use Rattle.directory.specs.Expiring.{expired_none, expired_more, expired_all}
 use Rattle.directory.proofs.expire_all.Goals as goal
 
 pub loop-p-init : goal.loop-p-init

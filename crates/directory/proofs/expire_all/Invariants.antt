@@ -1,9 +1,8 @@
 -- `directory::expire_all` meets its contract. The loop's invariant: the entries whose words stand before p have the new expiry.
 use Prim.Native.Nat.{◌-◌}
-use native.Mathlib.Omega.{arith}
 use lib.ListN.{length}
 use Rattle.rules.specs.Layout.{entries_of}
-use Rattle.directory.specs.Expiring.{Expired, expired_none, expired_more, expired_all}
+use Rattle.directory.specs.Expiring.{Expired}
 use Rattle.directory.proofs.expire_all.Given as goal
 
 abbrev pub invariant-loop-p : goal.invariant-loop-p

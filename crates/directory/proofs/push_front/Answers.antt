@@ -4,7 +4,6 @@ use mathlib.Core.List.{List}
 use Prim.Native.Nat.{ℕ, ◌+◌, ◌-◌, ◌*◌}
 use native.Mathlib.Omega.{arith}
 use lib.ListN.{take, drop, get_or, set, length-set}
-use borrow.Author.Rules.{rules}
 use Rattle.rules.specs.Layout.{words, put}
 use Rattle.directory.specs.Changes.{pushed}
 use Rattle.directory.proofs.push_front.Goals as goal

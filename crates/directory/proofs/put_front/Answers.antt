@@ -2,7 +2,6 @@
 use mathlib.Core.Path.{ap, ◌∙◌}
 use mathlib.Core.List.{List}
 use Prim.Native.Nat.{ℕ}
-use borrow.Author.Rules.{rules}
 use Rattle.rules.specs.Layout.{words, put}
 use Rattle.directory.specs.Changes.{fronted}
 use Rattle.directory.proofs.put_front.Goals as goal

@@ -1,6 +1,5 @@
 -- `directory::record_at` meets its contract.
 use mathlib.Core.Path.{sym, ◌∙◌}
-use borrow.Author.Rules.{rules}
 use Rattle.laws.specs.LayoutLaws.{get_d_entries}
 use Rattle.directory.proofs.record_at.Goals as goal
 

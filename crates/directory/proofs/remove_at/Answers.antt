@@ -2,7 +2,6 @@
 use mathlib.Core.Path.{◌∙◌}
 use native.Mathlib.Omega.{arith}
 use lib.ListN.{length-set}
-use borrow.Author.Rules.{rules}
 use Rattle.directory.specs.Changes.{removed}
 use Rattle.directory.proofs.remove_at.Goals as goal
 

@@ -1,6 +1,5 @@
 -- `directory::replace_at` meets its contract.
 use mathlib.Core.Path.{◌∙◌}
-use borrow.Author.Rules.{rules}
 use Rattle.directory.specs.Changes.{replaced}
 use Rattle.directory.proofs.replace_at.Goals as goal
 

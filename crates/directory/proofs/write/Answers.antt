@@ -1,7 +1,6 @@
 -- `directory::write` meets its contract.
 use native.Mathlib.Omega.{arith}
 use lib.ListN.{length-set}
-use borrow.Author.Rules.{rules}
 use Rattle.words.specs.PutLaws.{put_six}
 use Rattle.directory.proofs.write.Goals as goal
 

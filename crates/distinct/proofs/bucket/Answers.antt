@@ -1,6 +1,6 @@
 -- `distinct::bucket` meets its contract. The invariant of both loops: the bytes before i are hashed, so the rest decides.
-use Rattle.std.proofs.Common.{◌+◌, ◌-◌, ◌<◌, ◌≤◌, length, arith}
-use Rattle.distinct.specs.Hash.{Hashed, hashed_none, hashed_word, hashed_byte, hashed_done}
+use Rattle.std.proofs.Common.{arith}
+use Rattle.distinct.specs.Hash.{hashed_none, hashed_word, hashed_byte, hashed_done}
 use Rattle.distinct.proofs.bucket.Goals as goal
 
 pub loop-i-init : goal.loop-i-init

@@ -1,5 +1,5 @@
 -- `distinct::bucket_at` meets its contract.
-use Rattle.std.proofs.Common.{ap, ◌∙◌, arith, rules}
+use Rattle.std.proofs.Common.{ap, ◌∙◌, arith}
 use Rattle.laws.specs.Buffers.{given_sound, entry_fine, entry_inside}
 use Rattle.distinct.specs.Hash.{bucket_of}
 use Rattle.distinct.specs.Chains.{key_part_is}

@@ -1,11 +1,8 @@
 -- `distinct::differ` meets its contract. The invariant: the keys of the entries from i on differ, and these are chained.
-use Rattle.std.proofs.Common.{◌≡◌, ℕ, ◌-◌, ◌≤◌, true, length, drop, sym, refl, ap, ◌∙◌, subst, arith, length-set, rules}
-use lib.ListN.{length-replicate}
+use Rattle.std.proofs.Common.{◌≡◌, ◌≤◌, true, length, drop}
 use Rattle.rules.specs.Layout.{entries_of}
 use Rattle.rules.specs.Soundness.{keys_differ}
-use Rattle.laws.specs.Buffers.{given_sound}
-use Rattle.distinct.specs.Chains.{Link, Chains, chains_none, chains_more, head_link, behind_linked}
-use Rattle.distinct.specs.Differing.{differ_none, differ_more, differ_not, differ_all}
+use Rattle.distinct.specs.Chains.{Chains}
 use Rattle.distinct.proofs.differ.Given as goal
 
 abbrev pub invariant-loop-i : goal.invariant-loop-i

@@ -1,8 +1,7 @@
 -- `distinct::key_again` meets its contract. The invariant: no entry passed has the key, so the rest decides.
-use Rattle.std.proofs.Common.{◌≡◌, ◌-◌, length, sym, ◌∙◌, subst, arith, rules}
+use Rattle.std.proofs.Common.{◌≡◌, ◌-◌, length}
 use Rattle.rules.specs.Layout.{entries_of}
-use Rattle.laws.specs.Buffers.{given_sound, entry_inside}
-use Rattle.distinct.specs.Chains.{Link, Walked, walked_none, walked_here, walked_more, walked_end}
+use Rattle.distinct.specs.Chains.{Walked}
 use Rattle.distinct.proofs.key_again.Given as goal
 
 abbrev pub invariant-loop-j : goal.invariant-loop-j

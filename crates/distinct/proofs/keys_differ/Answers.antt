@@ -1,5 +1,5 @@
 -- `distinct::keys_differ` meets its contract.
-use Rattle.std.proofs.Common.{arith, rules}
+use Rattle.std.proofs.Common.{arith}
 use Rattle.laws.specs.Buffers.{given_sound}
 use Rattle.distinct.specs.Differing.{differ_few}
 use Rattle.distinct.proofs.keys_differ.Goals as goal

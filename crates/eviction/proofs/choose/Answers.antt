@@ -1,7 +1,6 @@
 -- `eviction::choose` meets its contract.
 use mathlib.Core.Path.{sym}
 use native.Mathlib.Omega.{arith}
-use borrow.Author.Rules.{rules}
 use Rattle.laws.specs.SoundnessLaws.{sound_is}
 use Rattle.eviction.specs.Scratch.{lent_length, lent_blank, back_room, back_length}
 use Rattle.eviction.specs.ChoiceLaws.{chosen_scratch}

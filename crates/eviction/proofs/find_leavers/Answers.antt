@@ -1,7 +1,6 @@
 -- `eviction::find_leavers` meets its contract. What the entries left still add to the rounds begun and the entries gone makes the rounds of the whole line.
 use native.Mathlib.Omega.{arith}
-use Rattle.rules.specs.Layout.{entries_of}
-use Rattle.eviction.specs.Leaving.{Leaving, leaving_none, leaving_more, leaves_stop, leaves_end}
+use Rattle.eviction.specs.Leaving.{leaving_none, leaving_more, leaves_stop, leaves_end}
 use Rattle.eviction.proofs.find_leavers.Goals as goal
 use Rattle.eviction.proofs.find_leavers.Goals.{else-loop-left-test, then-loop-left-test+then-limit-next}
 
@@ -20,7 +19,7 @@ loop-left-preserved c = leaving_more c.loop-left.invariant (omega arith) c.requi
 pub returns : goal.returns
 returns c =
     elim c.loop-left-test.branch [
-      else-loop-left-test w ↦ leaves_end c.loop-left.invariant c.count-n.ensures (omega arith)
-    | then-loop-left-test+then-limit-next w ↦
-      leaves_stop c.loop-left.invariant c.count-n.ensures (omega arith) w.record_at.ensures w.is_dead-dead.ensures w.next_turn-next.ensures w.if-limit-next.true
+      | else-loop-left-test w ↦ leaves_end c.loop-left.invariant c.count-n.ensures (omega arith)
+      | then-loop-left-test+then-limit-next w ↦
+          leaves_stop c.loop-left.invariant c.count-n.ensures (omega arith) w.record_at.ensures w.is_dead-dead.ensures w.next_turn-next.ensures w.if-limit-next.true
     ]

@@ -1,8 +1,6 @@
 -- `eviction::find_leavers` meets its contract. What the entries left still add to the rounds begun and the entries gone makes the rounds of the whole line.
-use mathlib.Core.Logic.{⊎_elim}
-use native.Mathlib.Omega.{arith}
 use Rattle.rules.specs.Layout.{entries_of}
-use Rattle.eviction.specs.Leaving.{Leaving, leaving_none, leaving_more, leaves_stop, leaves_end}
+use Rattle.eviction.specs.Leaving.{Leaving}
 use Rattle.eviction.proofs.find_leavers.Given as goal
 
 abbrev pub invariant-loop-left : goal.invariant-loop-left

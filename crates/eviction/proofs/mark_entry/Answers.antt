@@ -1,8 +1,5 @@
 -- `eviction::mark_entry` meets its contract.
-use mathlib.Core.Path.{◌∙◌}
 use native.Mathlib.Omega.{arith}
-use lib.ListN.{length-set}
-use borrow.Author.Rules.{rules}
 use Rattle.laws.specs.Marks.{written_first, written_then, written_one}
 use Rattle.eviction.proofs.mark_entry.Goals as goal
 

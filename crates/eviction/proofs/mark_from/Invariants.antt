@@ -1,8 +1,6 @@
 -- `eviction::mark_from` meets its contract. The loop has written the mark into the cells up to c.
-use mathlib.Core.Path.{◌≡◌}
 use Prim.Native.Nat.{◌-◌, ◌≤◌}
-use native.Mathlib.Omega.{arith}
-use Rattle.laws.specs.Marks.{Written, written_none, written_more}
+use Rattle.laws.specs.Marks.{Written}
 use Rattle.eviction.proofs.mark_from.Given as goal
 
 abbrev pub invariant-loop-c : goal.invariant-loop-c

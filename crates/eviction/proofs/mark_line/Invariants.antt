@@ -1,8 +1,6 @@
 -- `eviction::mark_line` meets its contract. What the records before word p still write over the marks makes them those of the whole line.
-use mathlib.Core.Path.{refl}
-use native.Mathlib.Omega.{arith}
 use lib.ListN.{length}
-use Rattle.eviction.specs.Marking.{Marking, marking_none, marking_words, marking_cells, marking_more, marking_done}
+use Rattle.eviction.specs.Marking.{Marking}
 use Rattle.eviction.proofs.mark_line.Given as goal
 
 abbrev pub invariant-loop-p : goal.invariant-loop-p

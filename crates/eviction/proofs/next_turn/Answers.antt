@@ -1,5 +1,4 @@
 -- `eviction::next_turn` meets its contract.
-use borrow.Author.Rules.{rules}
 use Rattle.eviction.specs.Turns.{turn_joins, turn_full, turn_live}
 use Rattle.eviction.proofs.next_turn.Goals as goal
 use Rattle.eviction.proofs.next_turn.Goals.{then-dead+else-turn-gt0, else-dead}

@@ -1,10 +1,5 @@
 -- `eviction::sweep` meets its contract.
 use Rattle.eviction.specs.Swept.{swept_few, swept_is}
-use borrow.Author.Rules.{rules}
-use Rattle.eviction.proofs.sweep.Reads as reads
-use Rattle.eviction.proofs.sweep.Lts as lts
-use Rattle.eviction.proofs.sweep_count.Reads as sweep-count-reads
-use Rattle.memory.proofs.remove_oldest.Reads as remove-oldest-reads
 use Rattle.eviction.proofs.sweep.Goals as goal
 
 pub remove_oldest-requires : goal.remove_oldest-requires

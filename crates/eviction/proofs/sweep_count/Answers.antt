@@ -1,7 +1,6 @@
 -- `eviction::sweep_count` meets its contract.
 use Rattle.std.proofs.Common.{ap, not}
 use native.Mathlib.Omega.{arith}
-use borrow.Author.Rules.{rules}
 use Rattle.laws.specs.SoundnessLaws.{sound_is}
 use Rattle.eviction.specs.Sweeping.{sweep_empty, sweep_live, sweep_one, sweep_second, sweep_both}
 use Rattle.eviction.proofs.sweep_count.Goals as goal

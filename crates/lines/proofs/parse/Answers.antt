@@ -2,7 +2,6 @@
 use Rattle.lines.specs.CallLaws.{none}
 use Rattle.lines.specs.LineLaws.{too_long, one, two, three, longer}
 use native.Mathlib.Omega.{arith}
-use borrow.Author.Rules.{rules}
 use Rattle.lines.proofs.parse.Goals as goal
 
 pub returns-then-line-gt4096 : goal.returns-then-line-gt4096

@@ -3,7 +3,6 @@ use Rattle.std.proofs.Common.{ap, not}
 use Rattle.decimals.specs.WeightLaws.{number_told}
 use Rattle.lines.specs.CallLaws.{none, number_is, number_none, fresh_other, fresh_none, fresh_zero, fresh_is}
 use native.Mathlib.Omega.{arith}
-use borrow.Author.Rules.{rules}
 use Rattle.lines.proofs.read_fresh.Goals as goal
 
 pub returns-then-not-equal : goal.returns-then-not-equal

@@ -1,7 +1,6 @@
 -- `lines::read_key` meets its contract.
 use Rattle.lines.specs.CallLaws.{none, number_is, number_none, clock_none, get_is, delete_is, word_other}
 use native.Mathlib.Omega.{arith}
-use borrow.Author.Rules.{rules}
 use Rattle.lines.proofs.read_key.Goals as goal
 
 pub returns-in_default : goal.returns-in_default

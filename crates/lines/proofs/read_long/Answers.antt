@@ -3,7 +3,6 @@ use Rattle.std.proofs.Common.{ap, not}
 use Rattle.lines.specs.CallLaws.{none}
 use Rattle.lines.specs.LineLaws.{four, five, six, many, seven_other, seven_set}
 use native.Mathlib.Omega.{arith}
-use borrow.Author.Rules.{rules}
 use Rattle.lines.proofs.read_long.Goals as goal
 
 pub returns-then-d-line : goal.returns-then-d-line

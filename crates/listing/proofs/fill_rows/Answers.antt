@@ -1,5 +1,5 @@
 -- `listing::fill_rows` meets its contract.
-use Rattle.std.proofs.Common.{◌≡◌, ℕ, ◌+◌, refl, sym, ap, ◌∙◌, arith, add-one}
+use Rattle.std.proofs.Common.{refl, sym, ap, ◌∙◌, arith, add-one}
 use Rattle.std.specs.Prelude.{set}
 use Rattle.listing.specs.Filling.{filled}
 use Rattle.listing.proofs.fill_rows.Goals as goal

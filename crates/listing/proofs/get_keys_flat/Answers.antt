@@ -3,7 +3,6 @@ use Rattle.rules.specs.Calls.{get_keys_flat_call}
 use Rattle.laws.specs.ChecksLaws.{clock_passed}
 use Rattle.listing.specs.Listings.{flat_refused, flat_passed}
 use mathlib.Core.Path.{sym, ◌∙◌}
-use borrow.Author.Rules.{rules}
 use Rattle.listing.proofs.get_keys_flat.Goals as goal
 
 pub returns-in-Refused : goal.returns-in-Refused

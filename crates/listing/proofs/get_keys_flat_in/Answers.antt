@@ -4,7 +4,6 @@ use Rattle.rules.specs.Layout.{memory_of}
 use Rattle.laws.specs.Buffers.{given_sound}
 use Rattle.listing.specs.Listings.{flat_listed}
 use native.Mathlib.Omega.{arith}
-use borrow.Author.Rules.{rules}
 use Rattle.listing.proofs.get_keys_flat_in.Goals as goal
 
 pub write_rows-k-requires : goal.write_rows-k-requires

@@ -4,7 +4,6 @@ use Rattle.listing.specs.Told.{keys_told}
 use mathlib.Core.Path.{refl, sym, ap}
 use Prim.Native.Nat.{ℕ, ◌*◌}
 use native.Mathlib.Omega.{arith}
-use borrow.Author.Rules.{rules}
 use Rattle.listing.proofs.keys_for.Goals as goal
 
 pub slice_bounds-get_keys_flat-end-2 : goal.slice_bounds-get_keys_flat-end-2

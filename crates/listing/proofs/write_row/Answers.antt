@@ -2,7 +2,6 @@
 use Rattle.listing.specs.Rows.{put_row}
 use native.Mathlib.Omega.{arith}
 use lib.ListN.{length-set}
-use borrow.Author.Rules.{rules}
 use Rattle.listing.proofs.write_row.Goals as goal
 
 pub bounds-table-p-2 : goal.bounds-table-p-2

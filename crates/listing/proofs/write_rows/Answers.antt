@@ -1,11 +1,7 @@
 -- `listing::write_rows` meets its contract. The invariant: the rows of the live entries among those passed are written.
-use Rattle.rules.specs.Layout.{entries_of}
-use borrow.Author.Tests.{not-true, not-false}
-use Rattle.listing.specs.Rows.{Rows, rows_none, rows_dead, rows_live, rows_full, rows_all}
-use mathlib.Core.Path.{◌≡◌, sym, ◌∙◌}
-use Prim.Native.Nat.{◌-◌, ◌*◌, ◌≤◌}
+use Rattle.listing.specs.Rows.{rows_none, rows_dead, rows_live, rows_full, rows_all}
+use mathlib.Core.Path.{sym, ◌∙◌}
 use native.Mathlib.Omega.{arith}
-use lib.ListN.{length}
 use Rattle.listing.proofs.write_rows.Goals as goal
 
 pub count-n-requires : goal.count-n-requires

@@ -1,10 +1,8 @@
 -- `listing::write_rows` meets its contract. The invariant: the rows of the live entries among those passed are written.
 use Rattle.rules.specs.Layout.{entries_of}
-use borrow.Author.Tests.{not-true, not-false}
-use Rattle.listing.specs.Rows.{Rows, rows_none, rows_dead, rows_live, rows_full, rows_all}
-use mathlib.Core.Path.{◌≡◌, sym, ◌∙◌}
+use Rattle.listing.specs.Rows.{Rows}
+use mathlib.Core.Path.{◌≡◌}
 use Prim.Native.Nat.{◌-◌, ◌*◌, ◌≤◌}
-use native.Mathlib.Omega.{arith}
 use lib.ListN.{length}
 use Rattle.listing.proofs.write_rows.Given as goal
 

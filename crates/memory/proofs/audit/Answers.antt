@@ -1,9 +1,7 @@
 -- `memory::audit` meets its contract.
 use Rattle.std.proofs.Common.{not}
 use mathlib.Core.Path.{sym, ◌∙◌, ap}
-use borrow.Author.Tests.{not-false}
 use Rattle.laws.specs.AuditLaws.{audit_not, audit_keys}
-use borrow.Author.Rules.{rules}
 use Rattle.memory.proofs.audit.Goals as goal
 
 pub returns-then-not-is_sound : goal.returns-then-not-is_sound

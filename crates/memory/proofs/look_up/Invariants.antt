@@ -1,11 +1,9 @@
 -- `memory::look_up` meets its contract. The invariant: the entries passed are not under the key.
-use mathlib.Core.Path.{◌≡◌, sym, ◌∙◌}
+use mathlib.Core.Path.{◌≡◌}
 use Rattle.rules.specs.Layout.{entries_of}
-use Rattle.laws.specs.LookUpLaws.{Seeks, seek_none, seek_more, seek_live, seek_dead, seek_end}
+use Rattle.laws.specs.LookUpLaws.{Seeks}
 use Prim.Native.Nat.{◌≤◌, ◌-◌}
 use lib.ListN.{length}
-use Rattle.laws.specs.Buffers.{given_sound, entry_inside}
-use native.Mathlib.Omega.{arith}
 use Rattle.memory.proofs.look_up.Given as goal
 
 abbrev pub invariant-loop-i : goal.invariant-loop-i

@@ -2,10 +2,8 @@
 use Rattle.std.proofs.Common.{not}
 use mathlib.Core.Path.{sym, ◌∙◌, ap}
 use Rattle.laws.specs.SoundnessLaws.{lengths_are}
-use borrow.Author.Tests.{not-false}
 use Rattle.memory.specs.Fresh.{fresh_refused, fresh_done}
 use native.Mathlib.Omega.{arith}
-use borrow.Author.Rules.{rules}
 use Rattle.memory.proofs.make_fresh.Goals as goal
 
 pub returns-then-not-right_lengths : goal.returns-then-not-right_lengths

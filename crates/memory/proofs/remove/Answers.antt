@@ -4,7 +4,6 @@ use native.Mathlib.Omega.{arith}
 use Rattle.rules.specs.declared.Entry.{Entry}
 use Rattle.rules.specs.Layout.{memory_of, wiped, remove}
 use Rattle.laws.specs.Buffers.{given_sound, entry_cells}
-use borrow.Author.Rules.{rules}
 use Rattle.memory.proofs.remove.Goals as goal
 
 pub record_at-requires : goal.record_at-requires
@@ -19,6 +18,6 @@ remove_at-requires c = record { dir = (given_sound _ _ c.requires.pool_value).di
 pub returns : goal.returns
 unfolding memory_of remove
 returns c = record {
-      words = c.remove_at.ensures;
-      bytes = c.wipe.ensures ∙ ap (λ (e : Entry). wiped e c.args.pool.now) c.record_at.ensures;
-    }
+  words = c.remove_at.ensures;
+  bytes = c.wipe.ensures ∙ ap (λ (e : Entry). wiped e c.args.pool.now) c.record_at.ensures;
+}

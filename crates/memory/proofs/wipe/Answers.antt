@@ -5,7 +5,6 @@ use native.Mathlib.Omega.{arith}
 use lib.ListN.{replicate}
 use Rattle.rules.specs.declared.Entry.{Entry}
 use Rattle.rules.specs.Layout.{put, wiped}
-use borrow.Author.Rules.{rules}
 use Rattle.memory.proofs.wipe.Goals as goal
 
 pub wipe-requires : goal.wipe-requires

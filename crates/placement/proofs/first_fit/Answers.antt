@@ -1,9 +1,6 @@
 -- `placement::first_fit` meets its contract. The outer loop has passed no start that has room; in the inner one the run from this start is within the limit. Each cell up to there was looked at once.
-use mathlib.Core.Path.{◌≡◌}
-use Prim.Native.Nat.{◌+◌, ◌-◌}
 use native.Mathlib.Omega.{arith}
-use lib.ListN.{length}
-use Rattle.placement.specs.Fitting.{Running, running_none, running_more, Looking, looking_none, looking_more, looking_found, looking_end}
+use Rattle.placement.specs.Fitting.{running_none, running_more, looking_none, looking_more, looking_found, looking_end}
 use Rattle.placement.proofs.first_fit.Goals as goal
 
 pub outer-init : goal.outer-init

@@ -1,10 +1,7 @@
 -- `placement::least_limit` meets its contract. The outer loop has passed only places that cost the bound at least; in the inner one the run from this start is below the bound.
-use mathlib.Core.Path.{◌≡◌, refl}
-use Prim.Native.Nat.{◌-◌}
+use mathlib.Core.Path.{refl}
 use native.Mathlib.Omega.{arith}
-use borrow.Author.Rules.{rules}
-use lib.ListN.{length}
-use Rattle.placement.specs.Least.{Passed, passed_none, passed_place, passed_cheapest, passed_cell, passed_end, Climbed, climbed_none, climbed_peak, climbed_more}
+use Rattle.placement.specs.Least.{passed_none, passed_place, passed_cheapest, passed_cell, passed_end, climbed_none, climbed_peak, climbed_more}
 use Rattle.placement.proofs.least_limit.Goals as goal
 
 pub outer-init : goal.outer-init

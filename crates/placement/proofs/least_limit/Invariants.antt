@@ -1,10 +1,8 @@
 -- `placement::least_limit` meets its contract. The outer loop has passed only places that cost the bound at least; in the inner one the run from this start is below the bound.
-use mathlib.Core.Path.{◌≡◌, refl}
+use mathlib.Core.Path.{◌≡◌}
 use Prim.Native.Nat.{◌-◌}
-use native.Mathlib.Omega.{arith}
-use borrow.Author.Rules.{rules}
 use lib.ListN.{length}
-use Rattle.placement.specs.Least.{Passed, passed_none, passed_place, passed_cheapest, passed_cell, passed_end, Climbed, climbed_none, climbed_peak, climbed_more}
+use Rattle.placement.specs.Least.{Passed, Climbed}
 use Rattle.placement.proofs.least_limit.Given as goal
 
 abbrev pub invariant-loop-run : goal.invariant-loop-run

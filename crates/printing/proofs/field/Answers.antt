@@ -4,7 +4,6 @@ use Rattle.printing.specs.Columns.{ended}
 use Rattle.printing.specs.Wrote.{wrote_first, wrote_byte, wrote_all}
 use mathlib.Core.Path.{refl}
 use native.Mathlib.Omega.{arith}
-use borrow.Author.Rules.{rules}
 use Rattle.printing.proofs.field.Goals as goal
 
 pub bounds-out-to : goal.bounds-out-to

@@ -6,7 +6,6 @@ use Rattle.values.specs.Bits.{held_is}
 use Rattle.printing.specs.Columns.{told_fields, shown_none, shown_text, shown_number}
 use mathlib.Core.Path.{refl, ap, ◌∙◌}
 use native.Mathlib.Omega.{arith}
-use borrow.Author.Rules.{rules}
 use Rattle.printing.proofs.shown.Goals as goal
 
 pub returns-then-t-eq0 : goal.returns-then-t-eq0

@@ -3,7 +3,6 @@ use Rattle.printing.specs.Columns.{three_ended}
 use Rattle.printing.specs.Wrote.{wrote_first, wrote_next, wrote_all}
 use mathlib.Core.Path.{refl}
 use native.Mathlib.Omega.{arith}
-use borrow.Author.Rules.{rules}
 use Rattle.printing.proofs.three.Goals as goal
 
 pub returns : goal.returns

@@ -3,7 +3,6 @@ use Rattle.printing.specs.Columns.{inside_told, line_joined}
 use Rattle.printing.specs.Wrote.{wrote_first, wrote_next, wrote_byte, wrote_all}
 use native.Mathlib.Omega.{arith}
 use lib.ListN.{length-set}
-use borrow.Author.Rules.{rules}
 use Rattle.printing.proofs.write_line.Goals as goal
 
 pub shown-to-requires : goal.shown-to-requires

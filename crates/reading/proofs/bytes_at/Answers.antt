@@ -1,6 +1,5 @@
 -- `reading::bytes_at` meets its contract.
 use native.Mathlib.Omega.{arith}
-use borrow.Author.Rules.{rules}
 use Rattle.reading.specs.Lent.{lent_none, lent_part}
 use Rattle.reading.proofs.bytes_at.Goals as goal
 

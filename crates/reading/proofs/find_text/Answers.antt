@@ -1,9 +1,8 @@
 -- `reading::find_text` meets its contract.
 use mathlib.Core.Path.{sym, ◌∙◌}
-use borrow.Author.Rules.{rules}
 use Rattle.laws.specs.ChecksLaws.{key_passed}
 use Rattle.laws.specs.Buffers.{given_sound}
-use Rattle.laws.specs.Meant.{no_live, live_there}
+use Rattle.laws.specs.Meant.{live_there}
 use Rattle.reading.specs.Lent.{text_refused, text_nothing, text_here, text_other}
 use Rattle.reading.proofs.find_text.Goals as goal
 

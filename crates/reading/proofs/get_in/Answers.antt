@@ -1,5 +1,4 @@
 -- `reading::get_in` meets its contract.
-use borrow.Author.Rules.{rules}
 use Rattle.rules.specs.Calls.{get_work}
 use Rattle.eviction.specs.Swept.{still_sound, behind_sweep}
 use Rattle.reading.proofs.get_in.Goals as goal

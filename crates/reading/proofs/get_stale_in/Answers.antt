@@ -1,5 +1,4 @@
 -- `reading::get_stale_in` meets its contract.
-use borrow.Author.Rules.{rules}
 use Rattle.laws.specs.Buffers.{given_sound}
 use Rattle.reading.specs.Readable.{readable}
 use Rattle.laws.specs.Meant.{live_there, dead_there}

@@ -1,9 +1,8 @@
 -- `reading::get_swept` meets its contract.
 use native.Mathlib.Omega.{arith}
-use borrow.Author.Rules.{rules}
 use Rattle.laws.specs.Buffers.{given_sound}
 use Rattle.reading.specs.Readable.{readable}
-use Rattle.laws.specs.Meant.{no_live, live_there}
+use Rattle.laws.specs.Meant.{live_there}
 use Rattle.reading.specs.Answering.{get_nothing, get_live}
 use Rattle.reading.proofs.get_swept.Goals as goal
 

@@ -1,9 +1,7 @@
 -- `reading::show` meets its contract.
 use native.Mathlib.Omega.{arith}
-use borrow.Author.Rules.{rules}
 use Rattle.laws.specs.Buffers.{given_sound}
 use Rattle.reading.specs.Lent.{show_inside, show_notice, show_sound, show_there, show_text}
-use Rattle.laws.specs.Meant.{no_live}
 use Rattle.reading.proofs.show.Goals as goal
 
 pub returns-in_default : goal.returns-in_default

@@ -1,5 +1,4 @@
 -- `reading::shown` meets its contract.
-use borrow.Author.Rules.{rules}
 use Rattle.values.specs.Bits.{held_is}
 use Rattle.reading.specs.Readable.{boolean_inside, number_inside, shown_boolean, shown_number, shown_text}
 use Rattle.reading.proofs.shown.Goals as goal

@@ -1,6 +1,5 @@
 -- `reading::ttl` meets its contract.
 use mathlib.Core.Path.{sym, ◌∙◌}
-use borrow.Author.Rules.{rules}
 use Rattle.rules.specs.Calls.{ttl_call}
 use Rattle.laws.specs.ChecksLaws.{key_passed}
 use Rattle.laws.specs.CallsLaws.{ask_refused, ask_passed}

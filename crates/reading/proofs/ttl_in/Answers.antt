@@ -1,7 +1,6 @@
 -- `reading::ttl_in` meets its contract.
-use borrow.Author.Rules.{rules}
 use Rattle.laws.specs.Buffers.{given_sound}
-use Rattle.laws.specs.Meant.{no_live, live_there, not_dead}
+use Rattle.laws.specs.Meant.{live_there, not_dead}
 use Rattle.reading.specs.Answering.{ttl_nothing, ttl_live}
 use Rattle.reading.proofs.ttl_in.Goals as goal
 

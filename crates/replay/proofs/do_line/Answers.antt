@@ -2,7 +2,6 @@
 use Rattle.printing.specs.Printable.{TextInside}
 use Rattle.replay.specs.Progress.{lined}
 use native.Mathlib.Omega.{arith}
-use borrow.Author.Rules.{rules}
 use Rattle.replay.proofs.do_line.Goals as goal
 
 pub do_call-ran-requires : goal.do_call-ran-requires

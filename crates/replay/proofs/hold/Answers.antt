@@ -4,7 +4,6 @@ use lib.ListN.{length}
 use Rattle.rules.specs.Layout.{put}
 use Rattle.replay.specs.Whole.{held_all, held_length}
 use native.Mathlib.Omega.{arith}
-use borrow.Author.Rules.{rules}
 use Rattle.replay.proofs.hold.Goals as goal
 
 pub copy_in-requires : goal.copy_in-requires

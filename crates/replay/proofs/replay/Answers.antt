@@ -1,7 +1,6 @@
 -- `replay::replay` meets its contract.
 use Rattle.replay.specs.Whole.{headed, rest_all}
 use native.Mathlib.Omega.{arith}
-use borrow.Author.Rules.{rules}
 use Rattle.replay.proofs.replay.Goals as goal
 
 pub returns : goal.returns

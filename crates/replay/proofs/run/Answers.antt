@@ -1,10 +1,7 @@
 -- `replay::run` meets its contract. The loop's invariant: how far the lines are done, and that no length has changed.
-use Rattle.replay_calls.specs.Front.{state}
-use Rattle.replay.specs.Progress.{Doing, doing_none, doing_line, doing_rest, doing_full}
-use mathlib.Core.Path.{◌≡◌, refl}
-use Prim.Native.Nat.{◌+◌, ◌-◌}
+use Rattle.replay.specs.Progress.{doing_none, doing_line, doing_rest, doing_full}
+use mathlib.Core.Path.{refl}
 use native.Mathlib.Omega.{arith}
-use lib.ListN.{length}
 use Rattle.replay.proofs.run.Goals as goal
 
 pub overflow_add-most : goal.overflow_add-most

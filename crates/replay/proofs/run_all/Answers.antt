@@ -3,7 +3,6 @@ use Rattle.replay_calls.specs.Front.{untouched}
 use Rattle.replay.specs.Whole.{behind_done, behind_full, behind_last}
 use mathlib.Core.Path.{refl}
 use native.Mathlib.Omega.{arith}
-use borrow.Author.Rules.{rules}
 use Rattle.replay.proofs.run_all.Goals as goal
 
 pub run-p-requires : goal.run-p-requires

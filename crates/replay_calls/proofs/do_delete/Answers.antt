@@ -2,10 +2,9 @@
 use Rattle.rules.specs.Checks.{key_checks}
 use Rattle.rules.specs.Calls.{delete_call, delete_work}
 use Rattle.laws.specs.ChecksLaws.{key_behind}
-use Rattle.replay_calls.specs.Front.{ready_front, called_early, called_refused, called_passed, few, dir_length, pool_length}
+use Rattle.replay_calls.specs.Front.{ready_front, called_early, called_refused, called_passed, dir_length, pool_length}
 use mathlib.Core.Path.{sym, ◌∙◌}
 use native.Mathlib.Omega.{arith}
-use borrow.Author.Rules.{rules}
 use Rattle.replay_calls.proofs.do_delete.Goals as goal
 
 pub returns-then-cells-eq0 : goal.returns-then-cells-eq0

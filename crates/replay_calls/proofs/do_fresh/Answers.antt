@@ -4,7 +4,6 @@ use lib.Seq.{length-take-le}
 use Rattle.replay_calls.specs.Front.{state, fresh_over, fresh_made}
 use mathlib.Core.Path.{sym}
 use native.Mathlib.Omega.{arith}
-use borrow.Author.Rules.{rules}
 use Rattle.replay_calls.proofs.do_fresh.Goals as goal
 
 pub returns-then-dir-words : goal.returns-then-dir-words

@@ -3,10 +3,9 @@ use Rattle.rules.specs.Checks.{store_checks}
 use Rattle.rules.specs.Calls.{store_call, store_work, item_of}
 use Rattle.rules.specs.declared.Operation.TheVariants.{Set}
 use Rattle.laws.specs.ChecksLaws.{store_behind}
-use Rattle.replay_calls.specs.Front.{ready_front, called_early, called_refused, set_passed, few, dir_length, pool_length}
+use Rattle.replay_calls.specs.Front.{ready_front, called_early, called_refused, set_passed, dir_length, pool_length}
 use mathlib.Core.Path.{sym, ◌∙◌}
 use native.Mathlib.Omega.{arith}
-use borrow.Author.Rules.{rules}
 use Rattle.replay_calls.proofs.do_set.Goals as goal
 
 pub returns-then-cells-eq0 : goal.returns-then-cells-eq0

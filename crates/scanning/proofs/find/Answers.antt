@@ -1,8 +1,6 @@
 -- `scanning::find` meets its contract. The loop's invariant: the byte stands nowhere from `from` to before i.
-use Rattle.scanning.specs.UntilLaws.{Passed, passed_none, passed_more, passed_byte, passed_all}
-use Prim.Native.Nat.{◌-◌}
+use Rattle.scanning.specs.UntilLaws.{passed_none, passed_more, passed_byte, passed_all}
 use native.Mathlib.Omega.{arith}
-use lib.ListN.{length}
 use Rattle.scanning.proofs.find.Goals as goal
 
 pub loop-i-init : goal.loop-i-init

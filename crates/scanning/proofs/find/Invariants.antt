@@ -1,7 +1,6 @@
 -- `scanning::find` meets its contract. The loop's invariant: the byte stands nowhere from `from` to before i.
-use Rattle.scanning.specs.UntilLaws.{Passed, passed_none, passed_more, passed_byte, passed_all}
+use Rattle.scanning.specs.UntilLaws.{Passed}
 use Prim.Native.Nat.{◌-◌}
-use native.Mathlib.Omega.{arith}
 use lib.ListN.{length}
 use Rattle.scanning.proofs.find.Given as goal
 

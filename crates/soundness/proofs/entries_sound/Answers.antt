@@ -1,9 +1,9 @@
 -- `soundness::entries_sound` meets its contract.
 use Rattle.std.proofs.Common.{not}
-use mathlib.Core.Path.{refl, sym, ◌∙◌, ap}
+use mathlib.Core.Path.{refl, ap}
 use Prim.Native.Nat.{◌-◌}
 use native.Mathlib.Omega.{arith}
-use Rattle.soundness.specs.Walk.{Walk, walk_start, walk_go, walk_stop, walk_end}
+use Rattle.soundness.specs.Walk.{walk_start, walk_go, walk_stop, walk_end}
 use Rattle.soundness.proofs.entries_sound.Goals as goal
 
 pub loop-p-init : goal.loop-p-init

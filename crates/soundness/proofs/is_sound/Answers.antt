@@ -5,7 +5,6 @@ use Rattle.rules.specs.Layout.{cells_of}
 use Rattle.laws.specs.Zeros.{zeros_get, zeros_length}
 use Rattle.soundness.specs.Test.{lengths_told, sound_lengths, sound_not, sound_used, sound_entries}
 use native.Mathlib.Omega.{arith}
-use borrow.Author.Rules.{rules}
 use Rattle.soundness.proofs.is_sound.Goals as goal
 
 pub returns-then-not-right_lengths : goal.returns-then-not-right_lengths

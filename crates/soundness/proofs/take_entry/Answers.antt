@@ -2,9 +2,7 @@
 use Rattle.std.proofs.Common.{not}
 use mathlib.Core.Path.{refl, ap}
 use native.Mathlib.Omega.{arith}
-use borrow.Author.Tests.{not-false}
 use Rattle.soundness.specs.Took.{took_not, took_held, took_byte, took_claimed, kind_one, kind_three, kind_four, one_kind, three_kind, four_kind}
-use borrow.Author.Rules.{rules}
 use Rattle.soundness.proofs.take_entry.Goals as goal
 
 pub returns-then-flags-ge4294967296 : goal.returns-then-flags-ge4294967296

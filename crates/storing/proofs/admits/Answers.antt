@@ -3,7 +3,6 @@ use mathlib.Core.Path.{sym, ap, ◌∙◌}
 use Rattle.rules.specs.declared.Operation.{Operation}
 use Rattle.storing.specs.StoreLaws.{admits_safe}
 use Rattle.rules.specs.Calls.{admits}
-use borrow.Author.Rules.{rules}
 use Rattle.storing.proofs.admits.Goals as goal
 
 pub returns-in-Set : goal.returns-in-Set

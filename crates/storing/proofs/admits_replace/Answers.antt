@@ -2,7 +2,6 @@
 use Rattle.rules.specs.declared.Operation.TheVariants.{Replace}
 use mathlib.Core.Path.{sym, ap}
 use Rattle.rules.specs.Calls.{admits}
-use borrow.Author.Rules.{rules}
 use Rattle.storing.proofs.admits_replace.Goals as goal
 
 pub returns-in-Live : goal.returns-in-Live

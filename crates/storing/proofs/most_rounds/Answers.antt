@@ -1,7 +1,6 @@
 -- `storing::most_rounds` meets its contract.
 use mathlib.Core.Path.{sym, ap}
 use Rattle.rules.specs.Calls.{most_rounds}
-use borrow.Author.Rules.{rules}
 use Rattle.storing.proofs.most_rounds.Goals as goal
 
 pub returns-in-Set : goal.returns-in-Set

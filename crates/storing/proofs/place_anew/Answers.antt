@@ -3,7 +3,6 @@ use Rattle.laws.specs.Buffers.{step_sound, oldest_sound}
 use mathlib.Core.Path.{refl}
 use Rattle.storing.specs.PlacingLaws.{chosen_for, gone_within, gone_few, chosen_fits, refused_does, placed_does}
 use native.Mathlib.Omega.{arith}
-use borrow.Author.Rules.{rules}
 use Rattle.storing.proofs.place_anew.Goals as goal
 
 pub need-need-requires : goal.need-need-requires

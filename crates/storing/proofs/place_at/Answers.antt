@@ -3,7 +3,6 @@ use Rattle.rules.specs.Calls.{entry_for}
 use Rattle.laws.specs.Buffers.{given_sound}
 use Rattle.storing.specs.PlacingLaws.{record_left, bytes_inside, placed_holds}
 use native.Mathlib.Omega.{arith}
-use borrow.Author.Rules.{rules}
 use Rattle.storing.proofs.place_at.Goals as goal
 
 pub overflow_mul-at : goal.overflow_mul-at

@@ -1,6 +1,5 @@
 -- `storing::replace` meets its contract.
 use Rattle.storing.specs.Losing.{same_store}
-use borrow.Author.Rules.{rules}
 use Rattle.storing.proofs.replace.Goals as goal
 
 pub returns : goal.returns

@@ -3,7 +3,6 @@ use Rattle.laws.specs.Buffers.{given_sound, entry_inside}
 use Rattle.storing.specs.Rewriting.{rewritten_holds}
 use mathlib.Core.Path.{ap}
 use native.Mathlib.Omega.{arith}
-use borrow.Author.Rules.{rules}
 use Rattle.storing.proofs.rewrite_at.Goals as goal
 
 pub record_at-old-requires : goal.record_at-old-requires

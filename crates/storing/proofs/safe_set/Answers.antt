@@ -1,6 +1,5 @@
 -- `storing::safe_set` meets its contract.
 use Rattle.storing.specs.Losing.{same_store}
-use borrow.Author.Rules.{rules}
 use Rattle.storing.proofs.safe_set.Goals as goal
 
 pub returns : goal.returns

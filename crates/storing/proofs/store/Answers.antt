@@ -1,7 +1,6 @@
 -- `storing::store` meets its contract.
 use mathlib.Core.Path.{sym, ◌∙◌}
 use Rattle.storing.specs.Losing.{store_refused, store_done}
-use borrow.Author.Rules.{rules}
 use Rattle.storing.proofs.store.Goals as goal
 
 pub returns-in-Refused : goal.returns-in-Refused

@@ -9,7 +9,6 @@ use Rattle.laws.specs.Carry.{store_fine}
 use Rattle.laws.specs.Buffers.{step_sound, swept_sound}
 use Rattle.storing.specs.StoreCallLaws.{swept_two, storable, ordered_does, nil_does, text_given, number_given, boolean_given, boolean_kind}
 use native.Mathlib.Omega.{arith}
-use borrow.Author.Rules.{rules}
 use Rattle.storing.proofs.store_in.Goals as goal
 
 pub sweep-removed-requires : goal.sweep-removed-requires

@@ -1,7 +1,6 @@
 -- `storing::store_item` meets its contract.
 use Rattle.laws.specs.Meant.{live_there, dead_there}
 use Rattle.storing.specs.StoreLaws.{item_live, item_dead, item_missing}
-use borrow.Author.Rules.{rules}
 use Rattle.storing.proofs.store_item.Goals as goal
 
 pub store_over-requires : goal.store_over-requires

@@ -4,7 +4,6 @@ use mathlib.Core.Path.{sym, ap, ◌∙◌}
 use Rattle.rules.specs.Calls.{entry_for}
 use Rattle.laws.specs.Buffers.{given_sound, step_sound, removed_sound}
 use Rattle.storing.specs.StoreLaws.{over_anew, over_same}
-use borrow.Author.Rules.{rules}
 use Rattle.storing.proofs.store_over.Goals as goal
 
 pub record_at-old-requires : goal.record_at-old-requires

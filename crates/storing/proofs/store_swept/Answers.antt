@@ -1,7 +1,6 @@
 -- `storing::store_swept` meets its contract.
 use Rattle.laws.specs.Buffers.{given_sound}
 use Rattle.storing.specs.StoreLaws.{found_refused, found_passed}
-use borrow.Author.Rules.{rules}
 use Rattle.storing.proofs.store_swept.Goals as goal
 
 pub look_up-found-requires : goal.look_up-found-requires

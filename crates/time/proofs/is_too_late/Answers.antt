@@ -1,7 +1,6 @@
 -- `time::is_too_late` meets its contract.
 use Rattle.laws.specs.TimeLaws.{too_late_is}
 use native.Mathlib.Omega.{arith}
-use borrow.Author.Rules.{rules}
 use Rattle.time.proofs.is_too_late.Goals as goal
 
 pub returns : goal.returns

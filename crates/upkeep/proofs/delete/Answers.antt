@@ -1,6 +1,5 @@
 -- `upkeep::delete` meets its contract.
 use mathlib.Core.Path.{sym, ◌∙◌}
-use borrow.Author.Rules.{rules}
 use Rattle.rules.specs.Calls.{delete_work, delete_call}
 use Rattle.laws.specs.ChecksLaws.{key_passed}
 use Rattle.laws.specs.CallsLaws.{gave_refused, gave_passed}

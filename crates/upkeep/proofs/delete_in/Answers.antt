@@ -1,6 +1,5 @@
 -- `upkeep::delete_in` meets its contract.
 use Prim.Native.Nat.{ℕ}
-use borrow.Author.Rules.{rules}
 use Rattle.rules.specs.Layout.{Memory}
 use Rattle.rules.specs.LookUp.{look_up}
 use Rattle.rules.specs.Calls.{delete_found, delete_work}

@@ -1,6 +1,5 @@
 -- `upkeep::delete_swept` meets its contract.
 use native.Mathlib.Omega.{arith}
-use borrow.Author.Rules.{rules}
 use Rattle.rules.specs.Layout.{memory_of}
 use Rattle.rules.specs.Calls.{delete_found}
 use Rattle.laws.specs.Buffers.{given_sound, holds_itself}

@@ -1,10 +1,7 @@
 -- `upkeep::drop_dead` meets its contract. The invariant: the records before `kept` are of the entries kept, and the others are as they were.
-use mathlib.Core.Path.{◌≡◌, sym, ◌∙◌}
-use Prim.Native.Nat.{◌-◌}
+use mathlib.Core.Path.{sym, ◌∙◌}
 use native.Mathlib.Omega.{arith}
-use lib.ListN.{length}
-use Rattle.rules.specs.Layout.{entries_of}
-use Rattle.upkeep.specs.Dropping.{Moved, moved_none, moved_dead, moved_live, moved_all}
+use Rattle.upkeep.specs.Dropping.{moved_none, moved_dead, moved_live, moved_all}
 use Rattle.upkeep.proofs.drop_dead.Goals as goal
 
 pub count-n-requires : goal.count-n-requires

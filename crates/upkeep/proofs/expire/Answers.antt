@@ -1,6 +1,5 @@
 -- `upkeep::expire` meets its contract.
 use mathlib.Core.Path.{sym, ◌∙◌}
-use borrow.Author.Rules.{rules}
 use Rattle.rules.specs.Calls.{expire_call}
 use Rattle.laws.specs.ChecksLaws.{expire_passed, expire_in_time}
 use Rattle.laws.specs.CallsLaws.{gave_refused, gave_passed}

@@ -1,7 +1,5 @@
 -- `upkeep::expire_in` meets its contract.
-use mathlib.Core.Logic.{⊎_elim}
 use native.Mathlib.Omega.{arith}
-use borrow.Author.Rules.{rules}
 use Rattle.rules.specs.Layout.{memory_of}
 use Rattle.rules.specs.Calls.{expire_found}
 use Rattle.laws.specs.Buffers.{given_sound}

@@ -1,8 +1,6 @@
 -- `upkeep::flush_all` meets its contract.
 use Rattle.std.proofs.Common.{not}
 use mathlib.Core.Path.{sym, ◌∙◌, ap}
-use borrow.Author.Tests.{not-false}
-use borrow.Author.Rules.{rules}
 use Rattle.rules.specs.Calls.{flush_all_work, flush_all_call}
 use Rattle.laws.specs.ChecksLaws.{sound_not, sound_yes}
 use Rattle.laws.specs.CallsLaws.{gave_refused, gave_passed}

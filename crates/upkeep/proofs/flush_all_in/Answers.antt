@@ -1,6 +1,5 @@
 -- `upkeep::flush_all_in` meets its contract.
 use mathlib.Core.Path.{refl}
-use borrow.Author.Rules.{rules}
 use Rattle.rules.specs.Layout.{memory_of}
 use Rattle.rules.specs.Calls.{flush_all_work}
 use Rattle.laws.specs.Buffers.{given_sound}

@@ -1,6 +1,5 @@
 -- `upkeep::flush_expired` meets its contract.
 use mathlib.Core.Path.{sym, ◌∙◌}
-use borrow.Author.Rules.{rules}
 use Rattle.rules.specs.Calls.{flush_expired_work, flush_expired_call}
 use Rattle.laws.specs.ChecksLaws.{clock_passed}
 use Rattle.laws.specs.CallsLaws.{gave_refused, gave_passed}

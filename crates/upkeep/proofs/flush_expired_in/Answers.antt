@@ -1,6 +1,5 @@
 -- `upkeep::flush_expired_in` meets its contract.
 use native.Mathlib.Omega.{arith}
-use borrow.Author.Rules.{rules}
 use Rattle.rules.specs.Layout.{memory_of}
 use Rattle.laws.specs.Buffers.{given_sound}
 use Rattle.upkeep.specs.Works.{flush_done}

@@ -1,11 +1,8 @@
 -- `upkeep::wipe_dead` meets its contract. The invariant: the entries from i on are decided, the first of their dead is `first`, and their dead are wiped.
-use mathlib.Core.Path.{sym, ◌∙◌}
 use Prim.Native.Nat.{◌≤◌}
-use native.Mathlib.Omega.{arith}
 use lib.ListN.{length}
 use Rattle.rules.specs.Layout.{entries_of, memory_of}
-use Rattle.laws.specs.Buffers.{given_sound, entry_cells}
-use Rattle.upkeep.specs.Flushing.{Decided, decided_none, decided_inside, decided_dead, decided_live, decided_full, decided_all}
+use Rattle.upkeep.specs.Flushing.{Decided}
 use Rattle.upkeep.proofs.wipe_dead.Given as goal
 
 abbrev pub invariant-loop-i : goal.invariant-loop-i

@@ -1,5 +1,5 @@
 -- `values::add` meets its contract. Two of a sign whose cut sum has the other sign are out of range; any other cut sum has the bits of the sum.
-use Rattle.std.proofs.Common.{ap, ◌∙◌, arith, rules}
+use Rattle.std.proofs.Common.{ap, ◌∙◌, arith}
 use Rattle.values.specs.declared.Sum.TheVariants.{Is}
 use Rattle.values.specs.Bits.{held_is}
 use Rattle.values.specs.SumLaws.{adds, adds_high, adds_low, adds_is}

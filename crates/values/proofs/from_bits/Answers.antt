@@ -1,5 +1,5 @@
 -- `values::from_bits` meets its contract.
-use Rattle.std.proofs.Common.{◌-◌, ◌^◌, arith, rules}
+use Rattle.std.proofs.Common.{◌-◌, ◌^◌, arith}
 use Rattle.values.specs.Bits.{upper_minus, upper_less, upper_is}
 use Rattle.values.proofs.from_bits.Goals as goal
 

@@ -1,5 +1,5 @@
 -- `values::key_is` meets its contract.
-use Rattle.std.proofs.Common.{◌≡◌, ℕ, ◌+◌, ◌-◌, ap, ◌∙◌, arith, rules}
+use Rattle.std.proofs.Common.{◌≡◌, ℕ, ◌+◌, ◌-◌, ap, ◌∙◌, arith}
 use Rattle.rules.specs.Layout.{part, key_offset, key_of}
 use Rattle.rules.specs.LookUp.{same, key_is}
 use Rattle.values.proofs.key_is.Goals as goal

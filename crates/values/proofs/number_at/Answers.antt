@@ -1,5 +1,5 @@
 -- `values::number_at` meets its contract.
-use Rattle.std.proofs.Common.{ap, ◌∙◌, w64, to_z, rules}
+use Rattle.std.proofs.Common.{ap, ◌∙◌, w64, to_z}
 use Rattle.rules.specs.Layout.{number_at}
 use Rattle.values.specs.Bits.{held_is}
 use Rattle.values.proofs.number_at.Goals as goal

@@ -1,5 +1,5 @@
 -- `values::number_bytes` meets its contract.
-use Rattle.std.proofs.Common.{ap, rules}
+use Rattle.std.proofs.Common.{ap}
 use Rattle.rules.specs.Layout.{bytes_of, number_bytes}
 use Rattle.values.specs.Bits.{bits_told}
 use Rattle.values.proofs.number_bytes.Goals as goal

@@ -1,9 +1,9 @@
 -- `words::clear` meets its contract. The loop's invariant: the first k words are written.
 use mathlib.Core.Path.{sym}
-use Prim.Native.Nat.{ℕ, ◌-◌}
+use Prim.Native.Nat.{ℕ}
 use native.Mathlib.Omega.{arith}
-use lib.ListN.{replicate, length-replicate, get_or-replicate}
-use Rattle.words.specs.Writing.{Written, written_none, written_more, written_all}
+use lib.ListN.{length-replicate, get_or-replicate}
+use Rattle.words.specs.Writing.{written_none, written_more, written_all}
 use Rattle.words.proofs.clear.Goals as goal
 
 pub loop-k-init : goal.loop-k-init

@@ -1,9 +1,7 @@
 -- `words::clear` meets its contract. The loop's invariant: the first k words are written.
-use mathlib.Core.Path.{sym}
-use Prim.Native.Nat.{ℕ, ◌-◌}
-use native.Mathlib.Omega.{arith}
-use lib.ListN.{replicate, length-replicate, get_or-replicate}
-use Rattle.words.specs.Writing.{Written, written_none, written_more, written_all}
+use Prim.Native.Nat.{◌-◌}
+use lib.ListN.{replicate}
+use Rattle.words.specs.Writing.{Written}
 use Rattle.words.proofs.clear.Given as goal
 
 abbrev pub invariant-loop-k : goal.invariant-loop-k

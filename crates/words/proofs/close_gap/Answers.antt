@@ -1,6 +1,5 @@
 -- `words::close_gap` meets its contract.
 use native.Mathlib.Omega.{arith}
-use borrow.Author.Rules.{rules}
 use Rattle.words.specs.GapLaws.{cut_is}
 use Rattle.words.proofs.close_gap.Goals as goal
 

@@ -1,9 +1,7 @@
 -- `words::copy_in` meets its contract. The loop's invariant: the first j bytes are written.
-use mathlib.Core.Path.{refl}
 use Prim.Native.Nat.{◌-◌}
-use native.Mathlib.Omega.{arith}
 use lib.ListN.{length}
-use Rattle.words.specs.Writing.{Written, written_none, written_more, written_all}
+use Rattle.words.specs.Writing.{Written}
 use Rattle.words.proofs.copy_in.Given as goal
 
 abbrev pub invariant-loop-j : goal.invariant-loop-j

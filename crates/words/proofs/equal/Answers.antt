@@ -2,7 +2,7 @@
 use mathlib.Core.Path.{sym, ◌∙◌}
 use Prim.Native.Nat.{◌-◌}
 use native.Mathlib.Omega.{arith}
-use Rattle.words.specs.SameLaws.{same_lengths, Agree, agree_start, agree_more, agree_stop, agree_byte, agree_not, agree_end}
+use Rattle.words.specs.SameLaws.{same_lengths, agree_start, agree_more, agree_stop, agree_byte, agree_not, agree_end}
 use Rattle.words.proofs.equal.Goals as goal
 
 pub returns-then-a-b : goal.returns-then-a-b

@@ -1,8 +1,5 @@
 -- `words::equal` meets its contract. The invariant of both loops: no byte from n on differs.
-use mathlib.Core.Path.{sym, ◌∙◌}
-use Prim.Native.Nat.{◌-◌}
-use native.Mathlib.Omega.{arith}
-use Rattle.words.specs.SameLaws.{same_lengths, Agree, agree_start, agree_more, agree_stop, agree_byte, agree_not, agree_end}
+use Rattle.words.specs.SameLaws.{Agree}
 use Rattle.words.proofs.equal.Given as goal
 
 abbrev pub invariant-loop-n : goal.invariant-loop-n

@@ -1,7 +1,6 @@
 -- `words::load4` meets its contract.
 use mathlib.Core.Path.{ap}
 use native.Mathlib.Omega.{arith}
-use borrow.Author.Rules.{rules}
 use Rattle.rules.specs.Layout.{value_of}
 use Rattle.laws.specs.NumberLaws.{part_four}
 use Rattle.words.proofs.load4.Goals as goal

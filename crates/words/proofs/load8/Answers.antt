@@ -1,6 +1,5 @@
 -- `words::load8` meets its contract.
 use native.Mathlib.Omega.{arith}
-use borrow.Author.Rules.{rules}
 use Rattle.laws.specs.NumberLaws.{value_halves}
 use Rattle.words.proofs.load8.Goals as goal
 

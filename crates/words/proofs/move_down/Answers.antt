@@ -1,10 +1,10 @@
 -- `words::move_down` meets its contract. The loop's invariant: the first j words are written, and those past them are as they were.
 use mathlib.Core.Path.{◌≡◌, sym, ap, ◌∙◌}
-use Prim.Native.Nat.{ℕ, ◌+◌, ◌-◌}
+use Prim.Native.Nat.{ℕ, ◌+◌}
 use native.Mathlib.Omega.{arith}
-use lib.ListN.{take, drop, get_or}
+use lib.ListN.{get_or}
 use Rattle.words.specs.PutLaws.{length_part, get_d_part}
-use Rattle.words.specs.Writing.{Written, written_none, written_more, written_all, written_past}
+use Rattle.words.specs.Writing.{written_none, written_more, written_all, written_past}
 use Rattle.words.proofs.move_down.Goals as goal
 
 pub loop-j-init : goal.loop-j-init

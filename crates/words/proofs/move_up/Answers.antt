@@ -4,7 +4,7 @@ use Prim.Native.Nat.{◌-◌}
 use native.Mathlib.Omega.{arith}
 use lib.ListN.{length, take, drop}
 use Rattle.words.specs.PutLaws.{length_part, get_d_part}
-use Rattle.words.specs.Writing.{Unwritten, unwritten_all, unwritten_less, unwritten_none, unwritten_before}
+use Rattle.words.specs.Writing.{unwritten_all, unwritten_less, unwritten_none, unwritten_before}
 use Rattle.words.proofs.move_up.Goals as goal
 
 pub loop-j-init : goal.loop-j-init

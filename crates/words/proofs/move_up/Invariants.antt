@@ -1,10 +1,6 @@
 -- `words::move_up` meets its contract. The loop's invariant: the first j words are still to be written, and those before them are as they were.
-use mathlib.Core.Path.{◌≡◌, sym, ◌∙◌}
-use Prim.Native.Nat.{◌-◌}
-use native.Mathlib.Omega.{arith}
-use lib.ListN.{length, take, drop}
-use Rattle.words.specs.PutLaws.{length_part, get_d_part}
-use Rattle.words.specs.Writing.{Unwritten, unwritten_all, unwritten_less, unwritten_none, unwritten_before}
+use lib.ListN.{take, drop}
+use Rattle.words.specs.Writing.{Unwritten}
 use Rattle.words.proofs.move_up.Given as goal
 
 abbrev pub invariant-loop-j : goal.invariant-loop-j
