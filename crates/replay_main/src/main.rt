@@ -1,14 +1,37 @@
 // Replays the lines of standard input, or of the files named as arguments, and writes the output to standard output. Lines are read in pieces, so that an input may have any size.
 #![tactic(auto)]
 
-ghost use Rattle.std.specs.Prelude.{◌+◌, ◌-◌, ◌≤◌, ◌<◌, ◌^◌, length};
+ghost use Rattle.std.specs.Prelude.{◌+◌, ◌≤◌, ◌<◌, ◌^◌, length, IfOk, IsTrue};
+ghost use Rattle.std.specs.Io.KnownBytes.{Appends};
 ghost use Rattle.replay_calls.specs.Front.{Ready};
 ghost use Rattle.rules.specs.Replay.{room};
 
-use libc::{STDIN_FILENO, STDOUT_FILENO};
+use std::env::{Env, FillError};
+use std::fs::Files;
+use std::io::{Error, ErrorKind, Print, Read, Write};
+use std::{fs, io};
 
 // No input has so many lines; with fewer, the count of lines has room for a piece of input more.
 const LINES: u64 = 9223372036854775808;
+
+// Says on standard error what failed, and why. Where that cannot be written either, there is nobody to tell.
+fn fail<E: Print>(errors: &E, what: &[u8], why: Error) {
+    let _ = errors.write_all(what);
+    let _ = errors.println(format_args!(": {why}"));
+}
+
+// Writes output, and answers whether it could be written. Where it could not, that is said.
+fn write_out<W: Write, E: Print>(output: &mut W, errors: &E, bytes: &[u8]) -> bool
+    ensures { IsTrue result → Appends (W.contents output.old) (W.contents output.new) bytes.now }
+{
+    match output.write_all(bytes) {
+        Ok(()) => true,
+        Err(why) => {
+            fail(errors, b"standard output", why);
+            false
+        }
+    }
+}
 
 // How far a piece of input came: the cells in use, the lines done in all, the bytes of the piece that are done, and whether the output could be written.
 #[derive(Clone, Copy)]
@@ -20,7 +43,9 @@ struct Pumped {
 }
 
 // Does the lines of a piece of input and writes their output. What is left of it then has no end of a line.
-fn pump(
+fn pump<W: Write, E: Print>(
+    output: &mut W,
+    errors: &E,
     dir: &mut [u64],
     pool: &mut [u8],
     out: &mut [u8],
@@ -45,7 +70,7 @@ fn pump(
         n = p.lines;
         at += p.consumed;
         let w = p.written;
-        if !io::write_all(STDOUT_FILENO, &out[..w]) {
+        if !write_out(output, errors, &out[..w]) {
             return Pumped {
                 cells: used,
                 lines: n,
@@ -76,7 +101,9 @@ struct Stand {
 }
 
 // Does the lines of the first n bytes of a piece, and keeps what is left of it.
-fn take_piece(
+fn take_piece<W: Write, E: Print>(
+    output: &mut W,
+    errors: &E,
     dir: &mut [u64],
     pool: &mut [u8],
     out: &mut [u8],
@@ -95,12 +122,9 @@ fn take_piece(
     ensures held_bound { result.held ≤ 4097 }
 {
     let piece = &buf[..n];
-    let p = pump(dir, pool, out, cells, lines, piece);
+    let p = pump(output, errors, dir, pool, out, cells, lines, piece);
     let done = p.consumed;
     let held = replay::hold(kept, &piece[done..]);
-    if !p.is_written {
-        os::fail(b"standard output");
-    }
     Stand {
         cells: p.cells,
         lines: p.lines,
@@ -111,9 +135,11 @@ fn take_piece(
 }
 
 // Reads once, behind what is kept of a line, and does the lines that came to an end.
-fn read_some(
-    fd: i32,
+fn read_some<R: Read, W: Write, E: Print>(
+    from: &mut R,
     name: &[u8],
+    output: &mut W,
+    errors: &E,
     dir: &mut [u64],
     pool: &mut [u8],
     out: &mut [u8],
@@ -142,28 +168,32 @@ fn read_some(
         return stands;
     }
     words::copy_in(buf, 0, &kept[..held]);
-    let got = libc::read(fd, &mut buf[held..]);
-    if got < 0 {
-        os::fail(name);
-        // a line that was cut off is not done
-        return Stand {
+    match from.read(&mut buf[held..]) {
+        Ok(0) => stands,
+        Ok(more) => take_piece(
+            output,
+            errors,
+            dir,
+            pool,
+            out,
+            kept,
             cells,
             lines,
-            held: 0,
-            goes_on: false,
-            is_written: true,
-        };
+            buf,
+            held + more,
+        ),
+        Err(why) => {
+            fail(errors, name, why);
+            // a line that was cut off is not done
+            Stand { held: 0, ..stands }
+        }
     }
-    let more = io::count(got, &buf[held..]);
-    if more == 0 {
-        return stands;
-    }
-    let n = held + more;
-    take_piece(dir, pool, out, kept, cells, lines, buf, n)
 }
 
 // A last line that has no end is done as if it had one.
-fn read_last(
+fn read_last<W: Write, E: Print>(
+    output: &mut W,
+    errors: &E,
     dir: &mut [u64],
     pool: &mut [u8],
     out: &mut [u8],
@@ -197,13 +227,15 @@ fn read_last(
     words::copy_in(buf, 0, &kept[..held]);
     buf[held] = 10;
     let n = held + 1;
-    take_piece(dir, pool, out, kept, cells, lines, buf, n)
+    take_piece(output, errors, dir, pool, out, kept, cells, lines, buf, n)
 }
 
-// Reads to the end of the input, piece by piece. A proved loop has to end, and nothing says that an input does: so the pieces are counted down, from a number that no run uses up.
-fn read_pieces(
-    fd: i32,
+// Reads to the end of the input, piece by piece. A proved loop has to end, and nothing says that an input does: so the pieces are counted, up to a number that no run reaches.
+fn read_pieces<R: Read, W: Write, E: Print>(
+    from: &mut R,
     name: &[u8],
+    output: &mut W,
+    errors: &E,
     dir: &mut [u64],
     pool: &mut [u8],
     out: &mut [u8],
@@ -222,16 +254,16 @@ fn read_pieces(
     let mut used = cells;
     let mut done = lines;
     let mut held = 0;
-    let mut turns = u64::MAX;
-    while turns > 0 {
-        let s = read_some(fd, name, dir, pool, out, buf, kept, used, done, held);
+    for _ in 0..u64::MAX {
+        let s = read_some(
+            from, name, output, errors, dir, pool, out, buf, kept, used, done, held,
+        );
         if !s.goes_on {
             return s;
         }
         used = s.cells;
         done = s.lines;
         held = s.held;
-        turns -= 1;
     }
     Stand {
         cells: used,
@@ -243,9 +275,11 @@ fn read_pieces(
 }
 
 // Reads an input to its end, a last line that has none included.
-fn read_all(
-    fd: i32,
+fn read_all<R: Read, W: Write, E: Print>(
+    from: &mut R,
     name: &[u8],
+    output: &mut W,
+    errors: &E,
     dir: &mut [u64],
     pool: &mut [u8],
     out: &mut [u8],
@@ -260,16 +294,55 @@ fn read_all(
     requires in_bounds_2 { 4097 ≤ length kept.old }
     ensures { Ready result.cells dir.new pool.new }
 {
-    let s = read_pieces(fd, name, dir, pool, out, buf, kept, cells, lines);
+    let s = read_pieces(
+        from, name, output, errors, dir, pool, out, buf, kept, cells, lines,
+    );
     if !s.is_written {
         return s;
     }
-    read_last(dir, pool, out, buf, kept, s.cells, s.lines, s.held)
+    read_last(
+        output, errors, dir, pool, out, buf, kept, s.cells, s.lines, s.held,
+    )
+}
+
+// How many arguments the program was started with, its own name among them.
+fn argument_count<S: Env>(rt: &S) -> usize {
+    for i in 0..usize::MAX {
+        if let Err(FillError::NotPresent) = rt.arg(i, &mut []) {
+            return i;
+        }
+    }
+    usize::MAX
+}
+
+// Puts an argument at the beginning of `name`, and answers its length. What failed is worded as the system words it.
+fn read_name<S: Env>(rt: &S, argument: usize, name: &mut [u8]) -> io::Result<usize>
+    ensures { IfOk result (λ n. n ≤ length name.new) }
+{
+    match rt.arg(argument, name) {
+        Ok(length) => Ok(length),
+        Err(FillError::TooLong) => Err(Error::new(
+            ErrorKind::InvalidFilename,
+            "File name too long",
+        )),
+        Err(FillError::NotPresent) => Err(Error::new(ErrorKind::InvalidInput, "Invalid argument")),
+    }
+}
+
+// Opens the file of a name. A path of std is text, so that a name which is none cannot be opened.
+fn open<S: Files>(rt: &S, name: &[u8]) -> io::Result<S::File> {
+    match str::from_utf8(name) {
+        Ok(path) => fs::open(rt, path),
+        Err(_) => Err(Error::new(ErrorKind::InvalidFilename, "File name is not UTF-8")),
+    }
 }
 
 // Replays the file that an argument names. Memory and numbers go on from the file before it.
-fn replay_file(
+fn replay_file<S: Env + Files, W: Write, E: Print>(
+    rt: &S,
     argument: usize,
+    output: &mut W,
+    errors: &E,
     dir: &mut [u64],
     pool: &mut [u8],
     out: &mut [u8],
@@ -291,25 +364,32 @@ fn replay_file(
         goes_on: true,
         is_written: true,
     };
-    let mut path = io::buffer();
-    let length = os::arg(argument, &mut path);
-    if os::errno() != 0 {
-        os::fail(b"file name");
-        return unread;
+    let mut path = [0u8; 4096];
+    let length = match read_name(rt, argument, &mut path) {
+        Ok(length) => length,
+        Err(why) => {
+            fail(errors, b"file name", why);
+            return unread;
+        }
+    };
+    let name = &path[..length];
+    match open(rt, name) {
+        Ok(mut file) => read_all(
+            &mut file, name, output, errors, dir, pool, out, buf, kept, cells, lines,
+        ),
+        Err(why) => {
+            fail(errors, name, why);
+            unread
+        }
     }
-    let fd = os::open_read(&path[..length]);
-    if fd < 0 {
-        os::fail(&path[..length]);
-        return unread;
-    }
-    let s = read_all(fd, &path[..length], dir, pool, out, buf, kept, cells, lines);
-    libc::close(fd);
-    s
 }
 
 // Replays the files that the arguments name, one after the other.
-fn replay_files(
+fn replay_files<S: Env + Files, W: Write, E: Print>(
+    rt: &S,
     count: usize,
+    output: &mut W,
+    errors: &E,
     dir: &mut [u64],
     pool: &mut [u8],
     out: &mut [u8],
@@ -323,39 +403,43 @@ fn replay_files(
 {
     let mut cells = 0;
     let mut lines = 0;
-    let mut i = 1;
-    while i < count {
-        let s = replay_file(i, dir, pool, out, buf, kept, cells, lines);
+    for i in 1..count {
+        let s = replay_file(
+            rt, i, output, errors, dir, pool, out, buf, kept, cells, lines,
+        );
         cells = s.cells;
         lines = s.lines;
         if !s.is_written {
             return;
         }
-        i += 1;
     }
 }
 
-fn main() {
+fn main(rt: HostRuntime) {
     let mut words = [0u64; 6146];
     let mut bytes = [0u8; 32768];
-    let mut space = io::large_buffer();
-    let mut piece = io::large_buffer();
+    let mut space = [0u8; 65536];
+    let mut piece = [0u8; 65536];
     let mut line = [0u8; 4097];
     let dir: &mut [u64] = &mut words;
     let pool: &mut [u8] = &mut bytes;
     let out: &mut [u8] = &mut space;
     let buf: &mut [u8] = &mut piece;
     let kept: &mut [u8] = &mut line;
+    let mut output = rt.stdout();
+    let errors = rt.stderr();
     let begun = printing::write_header(out);
-    if !io::write_all(STDOUT_FILENO, &out[..begun]) {
-        os::fail(b"standard output");
+    if !write_out(&mut output, &errors, &out[..begun]) {
         return;
     }
-    let count = os::arg_count();
+    let count = argument_count(&rt);
     if count < 2 {
+        let mut input = rt.stdin();
         read_all(
-            STDIN_FILENO,
+            &mut input,
             b"standard input",
+            &mut output,
+            &errors,
             dir,
             pool,
             out,
@@ -366,5 +450,5 @@ fn main() {
         );
         return;
     }
-    replay_files(count, dir, pool, out, buf, kept);
+    replay_files(&rt, count, &mut output, &errors, dir, pool, out, buf, kept);
 }
