@@ -12,7 +12,7 @@ use Rattle.rules.specs.Layout.{words, flat, encode, entries_of, none, Dir, witho
 use Rattle.words.specs.Gap.{cut}
 use Rattle.words.specs.GapLaws.{cut_at}
 use Rattle.words.specs.PutLaws.{put_at, put_before}
-use Rattle.directory.specs.Records.{encode_parts, length_before, length_words, unused, parts_at, entry_at}
+use Rattle.directory.specs.Records.{encode_parts, length_before, length_words, unused, parts_at, entry_at_is}
 
 -- ---- a change at the entry at i
 
@@ -34,7 +34,7 @@ module _ (d : List ℕ) (i : ℕ) (w : Dir d) (h : i < length (entries_of d)) wh
       let x : Entry = get_or (entries_of d) i none in
       let la : length before ≡ i = length-take-le i (entries_of d) (omega arith) in
       let lb : length behind ≡ m - i = length_behind ∙ ap (λ (k : ℕ). k - 1 - i) w.count in
-      ap (λ (y : List ℕ). cut (set y 1 m) (2 + 6 * i) 6 (6 * (m - i))) (entry_at d i w h)
+      ap (λ (y : List ℕ). cut (set y 1 m) (2 + 6 * i) 6 (6 * (m - i))) (entry_at_is d i w h)
       ∙ cut_at (1 ∷ m ∷ flat before) (words x) (flat behind) (replicate (unused d) 0) (2 + 6 * i) 6 (6 * (m - i)) (length_before m before i la) refl (length_words behind (m - i) lb)
       ∙ ap (λ (y : List ℕ). 1 ∷ m ∷ (flat before ++ (flat behind ++ y))) (replicate-append-replicate 6 (unused d) 0)
       ∙ sym (encode_parts (length d) m (6 + unused d) before behind (omega (arith, w.count)) (omega (arith, w.count, w.room)))
@@ -46,7 +46,7 @@ module _ (d : List ℕ) (i : ℕ) (w : Dir d) (h : i < length (entries_of d)) wh
       let m : ℕ = length (entries_of d) in
       let x : Entry = get_or (entries_of d) i none in
       let la : length before ≡ i = length-take-le i (entries_of d) (omega arith) in
-      ap (λ (y : List ℕ). put y (2 + 6 * i) (words e)) (entry_at d i w h)
+      ap (λ (y : List ℕ). put y (2 + 6 * i) (words e)) (entry_at_is d i w h)
       ∙ put_at (1 ∷ m ∷ flat before) (words x) (flat behind ++ replicate (unused d) 0) (words e) (2 + 6 * i) (length_before m before i la) refl
       ∙ sym (encode_parts (length d) m (unused d) before (e ∷ behind) (omega (arith, length_behind)) (omega (arith, w.room)))
 
@@ -57,7 +57,7 @@ module _ (d : List ℕ) (i : ℕ) (w : Dir d) (h : i < length (entries_of d)) wh
       let m : ℕ = length (entries_of d) in
       let x : Entry = get_or (entries_of d) i none in
       let la : length before ≡ i = length-take-le i (entries_of d) (omega arith) in
-      ap (λ (y : List ℕ). put (put y 8 (take (6 * i) (drop 2 y))) 2 (words e)) (entry_at d i w h)
+      ap (λ (y : List ℕ). put (put y 8 (take (6 * i) (drop 2 y))) 2 (words e)) (entry_at_is d i w h)
       ∙ put_before (1 ∷ m ∷ []) (flat before) (words x) (flat behind ++ replicate (unused d) 0) (words e) 2 (6 * i) refl (length_words before i la) refl
       ∙ sym (encode_parts (length d) m (unused d) (e ∷ before) behind (omega (arith, length_behind)) (omega (arith, w.room)))
 

@@ -36,9 +36,9 @@ parts_at d k w h =
     ∙ encode_parts (length d) (length es) (unused d) (take k es) (drop k es) (omega (arith, length-take-le k es h, length-drop k es)) (omega (arith, w.room))
 
 -- the entries before that at i, its six words, and the entries behind it
-pub entry_at : (d : List ℕ) (i : ℕ) → Dir d → i < length (entries_of d) → d ≡ 1 ∷ length (entries_of d) ∷ (flat (take i (entries_of d)) ++ (words (get_or (entries_of d) i none) ++ (flat (drop (suc i) (entries_of d)) ++ replicate (unused d) 0)))
+pub entry_at_is : (d : List ℕ) (i : ℕ) → Dir d → i < length (entries_of d) → d ≡ 1 ∷ length (entries_of d) ∷ (flat (take i (entries_of d)) ++ (words (get_or (entries_of d) i none) ++ (flat (drop (suc i) (entries_of d)) ++ replicate (unused d) 0)))
 unfolding flat
-entry_at d i w h =
+entry_at_is d i w h =
     let es : List Entry = entries_of d in
     parts_at d i w (omega arith)
     ∙ ap (λ (x : List Entry). 1 ∷ length es ∷ (flat (take i es) ++ (flat x ++ replicate (unused d) 0))) (drop-cons es i none h)

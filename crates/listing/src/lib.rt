@@ -90,7 +90,7 @@ fn row_at(table: &[u64], k: usize) -> Row
     }
 }
 
-// The first n rows of a table of plain numbers. Thin: over a slice of structs its proof is by hand.
+// The first n rows of a table of plain numbers.
 fn fill_rows(rows: &mut [Row], table: &[u64], n: usize)
     requires { Fits n (length rows.old) (length table.now) }
     ensures { rows.new ≡ filled rows.old table.now n }
@@ -139,7 +139,7 @@ fn rows_told(answer: Answer) -> usize
     n as usize
 }
 
-// get_keys into a lent table of rows, a row for each live entry, most recent first. Thin, as fill_rows is.
+// get_keys into a lent table of rows, a row for each live entry, most recent first.
 pub fn get_keys(dir: &[u64], pool: &[u8], clock: u64, maximum: u64, rows: &mut [Row]) -> Answer
     ensures { listing result rows.new ≡ get_keys_call dir.now pool.now clock maximum rows.old }
 {

@@ -463,7 +463,7 @@ unfoldable pub show_call : List ℕ → List ℕ → ℕ → List ℕ → List �
 show_call dir pool clock key notice =
     text_or notice (memory_of dir pool) (show_found (key_checks dir pool clock key) clock key (memory_of dir pool))
 
--- "whichever slice holds it": where the slice that is lent begins, inside the caller's own pool or where the caller's own notice does. A place is a block and an offset in it, as a slice's `ptr`
+-- "whichever slice holds it": where the slice that is lent begins, inside the caller's own pool or where the caller's own notice does. A place is a block and an offset in it, as a slice's `ref_ptr`
 unfoldable pub lent_from : ℕ × ℕ → ℕ × ℕ → Memory → Found → ℕ × ℕ
 lent_from pool notice m (Live i) = (pool.0, value_offset (entry_in m i) + pool.1)
 lent_from pool notice m (Dead i) = notice
