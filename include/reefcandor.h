@@ -16,7 +16,7 @@
  *   - all users of a memory use the same clock, Unix time in milliseconds: with two clocks one of them sweeps out what
  *     is live for the other.
  *
- * Link the archive that `rt staticlib capi` writes, target/staticlib/libcapi.a (x86-64 Linux).
+ * Link the archive crates/capi/out/libcapi.a, which `rt lib` makes in crates/capi (x86-64 Linux).
  *
  *
  * The two buffers

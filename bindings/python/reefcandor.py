@@ -86,8 +86,8 @@ def _load():
     path = Path(os.environ.get("REEFCANDOR_LIBRARY") or root / "target" / "python" / "libreefcandor.so")
     if not path.is_file():
         raise ImportError(
-            f"{path} is not there: run 'rt staticlib capi' and then 'bindings/python/build' at the root of the "
-            "repository, or set REEFCANDOR_LIBRARY to the shared object"
+            f"{path} is not there: run 'rt lib' in crates/capi and then 'bindings/python/build', or set "
+            "REEFCANDOR_LIBRARY to the shared object"
         )
     try:
         # PyDLL keeps the interpreter's lock: a call is short, and no stray thread of Python can come between

@@ -6,91 +6,94 @@ use crate::call::Name;
 /// computing, so each definition on the way has to be opened.
 const FILES: [(&str, &str); 11] = [
     (
-        "declared.Outcome.the-variants",
+        "declared.Outcome.TheVariants",
         "Done Number Boolean Text Count Sum NotSound ClockZero KeyEmpty KeyTooLong KindUnknown NilRefused \
          ExpiryTooLate NotFound Exists NotNumber SumTooLarge NoMemory",
     ),
-    ("declared.Operation.the-variants", "Set SafeSet Add SafeAdd Replace"),
-    ("declared.Initial.the-variants", "Given Absent"),
+    ("declared.Operation.TheVariants", "Set SafeSet Add SafeAdd Replace"),
+    ("declared.Initial.TheVariants", "Given Absent"),
     (
         "Layout",
-        "encode decode flat entriesOf without toFront replaceAt put keyOf valueBytes numberBytes numberAt memoryOf \
-         wiped remove removeOldest moveToFront",
+        "encode decode flat entries_of without to_front replace_at put key_of value_bytes number_bytes number_at \
+         memory_of wiped remove remove_oldest move_to_front",
     ),
-    ("Time", "dead expiryOf tooLate timeLeft withExpiry"),
-    ("LookUp", "same keyIs foundFrom lookUp"),
-    ("Recency", "deads after gone anyLive sweepCount sweep"),
-    ("Place", "holds held freeRun fitFrom firstFree run"),
-    ("Soundness", "every any rightLengths valueFits entrySound noneShared sound keysDiffer audit"),
-    ("Answer", "plain marked fieldsOf answerWords"),
+    ("Time", "dead expiry_of too_late time_left with_expiry"),
+    ("LookUp", "same key_is found_from look_up"),
+    ("Recency", "deads after gone any_live sweep_count sweep"),
+    ("Place", "holds held free_run fit_from first_free run"),
+    ("Soundness", "every any right_lengths value_fits entry_sound none_shared sound keys_differ audit"),
+    ("Answer", "plain marked fields_of answer_words"),
     (
         "Checks",
-        "_then_ refuse checkLengths checkSound checkClock checkKey checkKind takesNil checkNil checkLifetime \
-         clockChecks keyChecks expireChecks storeChecks checkInitial incrChecks",
+        "◌then◌ refuse check_lengths check_sound check_clock check_key check_kind takes_nil check_nil check_lifetime \
+         clock_checks key_checks expire_checks store_checks check_initial incr_checks",
     ),
 ];
 
 /// The names of Calls, the twelfth file.
-const CALLS: &str = "gave call ask freshWork freshCall afterSweep shown getFound getWork getCall staleFound \
-    getStaleCall deleteFound deleteWork deleteCall entryFor placeAt rewriteAt overwriteAt searched isPlaced ifRoom \
-    evicted forcedBy fitOutcome placeFit placedBy placeAnew storeOver storeItem mostRounds admits booleanByte \
-    valueGiven storeAdmitted storeFound storeWork itemOf storeCall inRange addAt incrLive incrNew incrInitial \
-    incrFound incrWork incrCall ttlFound ttlCall expireAt expireFound expireCall flushAllWork flushAllCall flushed \
-    upTo flushExpiredWork flushExpiredCall rowOf liveOf keyCount keyRows listing listed keysOf getKeysCall rowWords \
-    flatListing listedFlat flatKeysOf getKeysFlatCall bytesStart bytesAtCall textFound showFound textOr showCall";
+const CALLS: &str = "gave call ask fresh_work fresh_call after_sweep shown get_found get_work get_call stale_found \
+    get_stale_call delete_found delete_work delete_call entry_for place_at rewrite_at overwrite_at searched is_placed \
+    if_room evicted forced_by fit_outcome place_fit placed_by place_anew store_over store_item most_rounds admits \
+    boolean_byte value_given store_admitted store_found store_work item_of store_call in_range add_at incr_live \
+    incr_new incr_initial incr_found incr_work incr_call ttl_found ttl_call expire_at expire_found expire_call \
+    flush_all_work flush_all_call flushed up_to flush_expired_work flush_expired_call row_of live_of key_count \
+    key_rows listing listed keys_of get_keys_call row_words flat_listing listed_flat flat_keys_of get_keys_flat_call \
+    bytes_start bytes_at_call text_found show_found text_or show_call";
 
-const SOUND: &str = "entriesOf decode holds held freeRun every any rightLengths valueFits entrySound noneShared \
-    sound refuse checkSound";
-const CLOCK: &str = "_then_ checkClock clockChecks";
-const KEY: &str = "checkKey keyChecks";
-const CHANGE: &str = "memoryOf encode flat call";
-const FIND: &str = "dead same keyOf keyIs foundFrom lookUp";
-const SWEEP: &str = "deads without put wiped remove removeOldest sweepCount sweep afterSweep";
-const READ: &str = "shown numberAt";
-const PUT: &str = "expiryOf entryFor placeAt toFront rewriteAt overwriteAt after gone anyLive fitFrom firstFree run \
-    searched isPlaced ifRoom evicted forcedBy fitOutcome placeFit placedBy placeAnew storeOver storeItem mostRounds \
-    booleanByte numberBytes valueGiven itemOf";
-const STORE: &str = "checkKind takesNil checkNil tooLate checkLifetime storeChecks admits deleteFound storeAdmitted \
-    storeFound storeWork storeCall";
-const INCR: &str = "tooLate checkLifetime checkInitial incrChecks numberAt inRange addAt incrLive incrNew incrInitial \
-    incrFound incrWork incrCall";
-const LIST: &str = "memoryOf dead rowOf liveOf upTo keyCount keyRows";
+const SOUND: &str = "entries_of decode holds held free_run every any right_lengths value_fits entry_sound none_shared \
+    sound refuse check_sound";
+const CLOCK: &str = "◌then◌ check_clock clock_checks";
+const KEY: &str = "check_key key_checks";
+const CHANGE: &str = "memory_of encode flat call";
+const FIND: &str = "dead same key_of key_is found_from look_up";
+const SWEEP: &str = "deads without put wiped remove remove_oldest sweep_count sweep after_sweep";
+const READ: &str = "shown number_at";
+const PUT: &str = "expiry_of entry_for place_at to_front rewrite_at overwrite_at after gone any_live fit_from \
+    first_free run searched is_placed if_room evicted forced_by fit_outcome place_fit placed_by place_anew store_over \
+    store_item most_rounds boolean_byte number_bytes value_given item_of";
+const STORE: &str = "check_kind takes_nil check_nil too_late check_lifetime store_checks admits delete_found \
+    store_admitted store_found store_work store_call";
+const INCR: &str = "too_late check_lifetime check_initial incr_checks number_at in_range add_at incr_live incr_new \
+    incr_initial incr_found incr_work incr_call";
+const LIST: &str = "memory_of dead row_of live_of up_to key_count key_rows";
 
 /// The definitions that a call's equation opens.
 pub fn opened(name: Name) -> Vec<&'static str> {
     let groups: &[&str] = match name {
-        Name::MakeFresh => &["entriesOf decode rightLengths refuse checkLengths freshWork freshCall", CHANGE],
-        Name::Audit => &[SOUND, "same keyOf keyIs keysDiffer audit"],
-        Name::Get => &[SOUND, CLOCK, KEY, CHANGE, FIND, SWEEP, READ, "toFront moveToFront getFound getWork getCall"],
-        Name::GetStale => &[SOUND, CLOCK, KEY, FIND, READ, "memoryOf ask staleFound getStaleCall"],
-        Name::Ttl => &[SOUND, CLOCK, KEY, FIND, "memoryOf ask timeLeft ttlFound ttlCall"],
-        Name::BytesAt => &["bytesStart bytesAtCall"],
-        Name::Show => &[SOUND, CLOCK, KEY, FIND, "memoryOf valueBytes textFound showFound textOr showCall"],
+        Name::MakeFresh => &["entries_of decode right_lengths refuse check_lengths fresh_work fresh_call", CHANGE],
+        Name::Audit => &[SOUND, "same key_of key_is keys_differ audit"],
+        Name::Get => {
+            &[SOUND, CLOCK, KEY, CHANGE, FIND, SWEEP, READ, "to_front move_to_front get_found get_work get_call"]
+        }
+        Name::GetStale => &[SOUND, CLOCK, KEY, FIND, READ, "memory_of ask stale_found get_stale_call"],
+        Name::Ttl => &[SOUND, CLOCK, KEY, FIND, "memory_of ask time_left ttl_found ttl_call"],
+        Name::BytesAt => &["bytes_start bytes_at_call"],
+        Name::Show => &[SOUND, CLOCK, KEY, FIND, "memory_of value_bytes text_found show_found text_or show_call"],
         Name::Set | Name::SafeSet | Name::Add | Name::SafeAdd | Name::Replace => {
             &[SOUND, CLOCK, KEY, CHANGE, FIND, SWEEP, PUT, STORE]
         }
         Name::Incr => &[SOUND, CLOCK, KEY, CHANGE, FIND, SWEEP, PUT, INCR],
-        Name::Delete => &[SOUND, CLOCK, KEY, CHANGE, FIND, SWEEP, "deleteFound deleteWork deleteCall"],
+        Name::Delete => &[SOUND, CLOCK, KEY, CHANGE, FIND, SWEEP, "delete_found delete_work delete_call"],
         Name::Expire => &[
             SOUND,
             CLOCK,
             KEY,
             CHANGE,
             FIND,
-            "tooLate checkLifetime expireChecks expiryOf withExpiry replaceAt expireAt expireFound expireCall",
+            "too_late check_lifetime expire_checks expiry_of with_expiry replace_at expire_at expire_found expire_call",
         ],
-        Name::FlushAll => &[SOUND, CHANGE, "withExpiry flushAllWork flushAllCall"],
+        Name::FlushAll => &[SOUND, CHANGE, "with_expiry flush_all_work flush_all_call"],
         Name::FlushExpired => {
-            &[SOUND, CLOCK, CHANGE, "dead without put wiped remove flushed upTo flushExpiredWork flushExpiredCall"]
+            &[SOUND, CLOCK, CHANGE, "dead without put wiped remove flushed up_to flush_expired_work flush_expired_call"]
         }
-        Name::GetKeys => &[SOUND, CLOCK, LIST, "rowWords listedFlat flatKeysOf getKeysFlatCall"],
+        Name::GetKeys => &[SOUND, CLOCK, LIST, "row_words listed_flat flat_keys_of get_keys_flat_call"],
     };
     names(groups)
 }
 
 /// The definitions that get_keys over rows opens.
 pub fn opened_by_rows() -> Vec<&'static str> {
-    names(&[SOUND, CLOCK, LIST, "listed keysOf getKeysCall"])
+    names(&[SOUND, CLOCK, LIST, "listed keys_of get_keys_call"])
 }
 
 fn names(groups: &[&'static str]) -> Vec<&'static str> {
@@ -107,7 +110,7 @@ pub fn uses(text: &str) -> String {
         let used = names.split_ascii_whitespace().filter(|name| standing.binary_search(name).is_ok());
         let used: Vec<&str> = used.collect();
         if !used.is_empty() {
-            lines.push_str(&format!("use Rattle·rules.specs.{file}.{{{}}}\n", used.join(", ")));
+            lines.push_str(&format!("use Rattle.rules.specs.{file}.{{{}}}\n", used.join(", ")));
         }
     }
     lines
@@ -134,6 +137,6 @@ mod tests {
 
     #[test]
     fn only_names_that_stand_there_are_used() {
-        assert_eq!(uses("pub v : audit x ≡ true"), "use Rattle·rules.specs.Soundness.{audit}\n");
+        assert_eq!(uses("pub v : audit x ≡ true"), "use Rattle.rules.specs.Soundness.{audit}\n");
     }
 }

@@ -13,11 +13,7 @@ const MOST: usize = 60;
 const HEAD: &str = "\
 -- Calls that the second program (second/) made, computed once more by the definitions: the whole answer, all words and all bytes.
 -- Written by `cargo run --release --offline --bin vectors` in sessions/, not by hand.
-use mathlib.Core.Path.{_≡_, refl}
-use mathlib.Core.Bool.{true, false}
-use mathlib.Core.List.{[], _∷_, _++_}
-use lib.ListN.{replicate}
-use lib.IntN.{pos, negsuc}
+use Rattle.std.specs.Prelude.{◌≡◌, refl, true, false, [], ◌∷◌, ◌++◌, replicate, pos, negsuc}
 ";
 
 /// A declaration: what it says of which call, and what it opens.
@@ -61,7 +57,7 @@ fn of_call(number: usize, vector: &Vector) -> Declaration {
     let name = vector.call.name;
     Declaration {
         comment: comment(vector),
-        name: format!("v{number:03}-{}", name.text().replace('_', "-")),
+        name: format!("v{number:03}_{}", name.text()),
         statement: statement(vector),
         opened: opened(name),
     }
@@ -88,21 +84,21 @@ fn statement(vector: &Vector) -> String {
     let memory = format!("{} {}", list(&before.dir), list(&before.pool));
     let keyed = format!("{memory} {} {}", args.clock, list(&args.key));
     let left = match name {
-        Name::MakeFresh => format!("freshCall {memory}"),
+        Name::MakeFresh => format!("fresh_call {memory}"),
         Name::Audit => format!("audit {memory}"),
-        Name::Get => format!("getCall {keyed}"),
-        Name::GetStale => format!("getStaleCall {keyed}"),
-        Name::Ttl => format!("ttlCall {keyed}"),
-        Name::BytesAt => format!("bytesAtCall {} {} {}", list(&before.pool), args.offset, args.length),
-        Name::Show => format!("showCall {keyed} {}", list(NOTICE)),
+        Name::Get => format!("get_call {keyed}"),
+        Name::GetStale => format!("get_stale_call {keyed}"),
+        Name::Ttl => format!("ttl_call {keyed}"),
+        Name::BytesAt => format!("bytes_at_call {} {} {}", list(&before.pool), args.offset, args.length),
+        Name::Show => format!("show_call {keyed} {}", list(NOTICE)),
         Name::Set | Name::SafeSet | Name::Add | Name::SafeAdd | Name::Replace => store(call, &keyed),
-        Name::Incr => format!("incrCall {keyed} {} {}", signed(args.step), initial(args)),
-        Name::Delete => format!("deleteCall {keyed}"),
-        Name::Expire => format!("expireCall {keyed} {}", args.lifetime),
-        Name::FlushAll => format!("flushAllCall {memory}"),
-        Name::FlushExpired => format!("flushExpiredCall {memory} {} {}", args.clock, args.maximum),
+        Name::Incr => format!("incr_call {keyed} {} {}", signed(args.step), initial(args)),
+        Name::Delete => format!("delete_call {keyed}"),
+        Name::Expire => format!("expire_call {keyed} {}", args.lifetime),
+        Name::FlushAll => format!("flush_all_call {memory}"),
+        Name::FlushExpired => format!("flush_expired_call {memory} {} {}", args.clock, args.maximum),
         Name::GetKeys => {
-            format!("getKeysFlatCall {memory} {} {} {}", args.clock, args.maximum, list(&args.table))
+            format!("get_keys_flat_call {memory} {} {} {}", args.clock, args.maximum, list(&args.table))
         }
     };
     format!("{left} ≡ {}", result(call, reply, after))
@@ -111,7 +107,7 @@ fn statement(vector: &Vector) -> String {
 fn store(call: &Call, keyed: &str) -> String {
     let Call { name, args } = call;
     let (number, text) = (signed(args.number), list(&args.text));
-    format!("storeCall {name:?} {keyed} {} {number} {text} {} {}", args.kind, args.lifetime, args.flags)
+    format!("store_call {name:?} {keyed} {} {number} {text} {} {}", args.kind, args.lifetime, args.flags)
 }
 
 fn initial(args: &Args) -> String {
@@ -127,7 +123,7 @@ fn result(call: &Call, reply: &Reply, after: &Memory) -> String {
     match (call.name, reply) {
         (Name::GetStale | Name::Ttl, Reply::Answer(words)) => answer(call, words),
         (_, Reply::Answer(words)) => format!("gave {} {} {}", answer(call, words), list(&after.dir), list(&after.pool)),
-        (_, Reply::Listing(words, table)) => format!("flatListing {} {}", answer(call, words), list(table)),
+        (_, Reply::Listing(words, table)) => format!("flat_listing {} {}", answer(call, words), list(table)),
         (_, Reply::Place([1, offset, length])) => list(part(after, *offset, *length)),
         (_, Reply::Place(_)) => list(NOTICE),
         (_, Reply::Part([offset, length])) => list(part(after, *offset, *length)),
@@ -146,16 +142,16 @@ fn beside(number: usize, vector: &Vector) -> Option<Declaration> {
     let (name, statement, opened) = match reply {
         Reply::Part([start, _]) => {
             let pool = list(&before.pool);
-            ("start", format!("bytesStart {pool} {} {} ≡ {start}", args.offset, args.length), opened(call.name))
+            ("start", format!("bytes_start {pool} {} {} ≡ {start}", args.offset, args.length), opened(call.name))
         }
         Reply::Listing(words, table) if table.len() % 3 == 0 => {
             let memory = format!("{} {}", list(&before.dir), list(&before.pool));
-            let asked = format!("getKeysCall {memory} {} {} {}", args.clock, args.maximum, rows(&args.table));
+            let asked = format!("get_keys_call {memory} {} {} {}", args.clock, args.maximum, rows(&args.table));
             ("rows", format!("{asked} ≡ listing {} {}", answer(call, words), rows(table)), opened_by_rows())
         }
         _ => return None,
     };
-    Some(Declaration { comment: format!("the same: {name}"), name: format!("v{number:03}-{name}"), statement, opened })
+    Some(Declaration { comment: format!("the same: {name}"), name: format!("v{number:03}_{name}"), statement, opened })
 }
 
 fn rows(table: &[u64]) -> String {
@@ -171,11 +167,11 @@ fn of_answers(vectors: &[Vector]) -> Vec<Declaration> {
     let mut declarations: Vec<Declaration> = Vec::new();
     for vector in vectors {
         let Some(words) = vector.reply.answer() else { continue };
-        let statement = format!("answerWords {} ≡ {}", answer(&vector.call, words), list(words));
+        let statement = format!("answer_words {} ≡ {}", answer(&vector.call, words), list(words));
         if !declarations.iter().any(|other| other.statement == statement) {
             let name = format!("w{:03}", declarations.len() + 1);
             let comment = String::from("the words of an answer");
-            declarations.push(Declaration { comment, name, statement, opened: vec!["fieldsOf", "answerWords"] });
+            declarations.push(Declaration { comment, name, statement, opened: vec!["fields_of", "answer_words"] });
         }
     }
     declarations

@@ -15,7 +15,7 @@ use crate::memory::Memory;
 /// What a filter of rows has to fit.
 pub const LABEL: &str = "replay";
 
-const PROGRAM: &str = concat!(env!("CARGO_MANIFEST_DIR"), "/../target/bin/replay_main");
+const PROGRAM: &str = concat!(env!("CARGO_MANIFEST_DIR"), "/../crates/replay_main/out/replay_main");
 /// An input without a line.
 const EMPTY: &str = "/dev/null";
 /// The least number of turns in a run.
@@ -115,7 +115,7 @@ pub fn program_is_there() -> io::Result<()> {
     if Path::new(PROGRAM).exists() {
         return Ok(());
     }
-    let text = "target/bin/replay_main is not there: run `rt check replay_main` at the root of the repository";
+    let text = "crates/replay_main/out/replay_main is not there: run `rt run </dev/null` in crates/replay_main";
     Err(io::Error::new(io::ErrorKind::NotFound, text))
 }
 

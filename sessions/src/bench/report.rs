@@ -101,7 +101,7 @@ Each call of the proved library, through the C interface, beside the same call o
 
     cargo run --release --offline --bin bench
 
-in `sessions/`, which takes about two minutes and a quarter and needs the replay program (`rt check replay_main`); \
+in `sessions/`, which takes about two minutes and a quarter and needs the replay program (`rt run` in crates/replay_main); \
 `--quick` prints a short run and writes nothing.
 
 How it is measured: both programs run in the same process, built for release, pinned to no core. A batch is one call \
