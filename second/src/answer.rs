@@ -9,27 +9,27 @@ pub mod outcome {
     /// Clock is 0.
     pub const CLOCK_ZERO: u8 = 2;
     /// Empty key.
-    pub const EMPTY_KEY: u8 = 3;
+    pub const KEY_EMPTY: u8 = 3;
     /// Key over 65,535 bytes.
-    pub const LONG_KEY: u8 = 4;
+    pub const KEY_TOO_LONG: u8 = 4;
     /// Kind is not 0, 1, 3 or 4.
-    pub const BAD_KIND: u8 = 5;
+    pub const KIND_UNKNOWN: u8 = 5;
     /// Nil (kind 0) in add, safe_add or replace.
-    pub const NIL: u8 = 6;
+    pub const NIL_REFUSED: u8 = 6;
     /// Clock + lifetime above 2^64 − 1.
-    pub const LATE_EXPIRY: u8 = 7;
+    pub const EXPIRY_TOO_LATE: u8 = 7;
     /// Not found.
     pub const NOT_FOUND: u8 = 8;
     /// Exists.
     pub const EXISTS: u8 = 9;
     /// Not a number.
-    pub const NOT_A_NUMBER: u8 = 10;
+    pub const NOT_NUMBER: u8 = 10;
     /// Sum outside signed 64 bits.
-    pub const SUM_OUT_OF_RANGE: u8 = 11;
+    pub const SUM_TOO_LARGE: u8 = 11;
     /// No memory.
     pub const NO_MEMORY: u8 = 12;
     /// Replay line not understood.
-    pub const NOT_UNDERSTOOD: u8 = 13;
+    pub const LINE_UNREADABLE: u8 = 13;
 }
 
 /// "Every answer carries its outcome, the rounds run and the entries removed, a forced mark, and for readers the

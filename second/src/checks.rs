@@ -3,7 +3,7 @@
 //! "Checks run in the order of the numbers 1 to 7, those that the call's arguments allow". Which call makes which is
 //! decision 1 of docs/DECISIONS.md. All come before the sweep and leave the memory unchanged.
 
-use crate::answer::outcome::{BAD_KIND, CLOCK_ZERO, EMPTY_KEY, LATE_EXPIRY, LONG_KEY, NOT_SOUND};
+use crate::answer::outcome::{CLOCK_ZERO, EXPIRY_TOO_LATE, KEY_EMPTY, KEY_TOO_LONG, KIND_UNKNOWN, NOT_SOUND};
 use crate::cells::{CellMap, CELL, MOST_CELLS};
 use crate::directory::{entries, kind, Entry, FORM, HEAD, RECORD};
 
@@ -80,10 +80,10 @@ pub(crate) fn check_clocked(dir: &[u64], pool: &[u8], clock: u64) -> Result<Cell
 pub(crate) fn check_keyed(dir: &[u64], pool: &[u8], clock: u64, key: &[u8]) -> Result<CellMap, u8> {
     let cells = check_clocked(dir, pool, clock)?;
     if key.is_empty() {
-        return Err(EMPTY_KEY);
+        return Err(KEY_EMPTY);
     }
     if key.len() > LONGEST_KEY {
-        return Err(LONG_KEY);
+        return Err(KEY_TOO_LONG);
     }
     Ok(cells)
 }
@@ -92,7 +92,7 @@ pub(crate) fn check_keyed(dir: &[u64], pool: &[u8], clock: u64, key: &[u8]) -> R
 pub(crate) fn check_kind(kind: u8) -> Result<(), u8> {
     match kind {
         kind::NIL | kind::BOOLEAN | kind::NUMBER | kind::TEXT => Ok(()),
-        _ => Err(BAD_KIND),
+        _ => Err(KIND_UNKNOWN),
     }
 }
 
@@ -102,5 +102,5 @@ pub(crate) fn check_lifetime(clock: u64, lifetime: u64) -> Result<u64, u8> {
     if lifetime == 0 {
         return Ok(0);
     }
-    clock.checked_add(lifetime).ok_or(LATE_EXPIRY)
+    clock.checked_add(lifetime).ok_or(EXPIRY_TOO_LATE)
 }

@@ -1,7 +1,7 @@
 //! incr: adding to a stored number.
 
 use crate::answer::{
-    outcome::{DONE, NOT_A_NUMBER, NOT_FOUND, SUM_OUT_OF_RANGE},
+    outcome::{DONE, NOT_FOUND, NOT_NUMBER, SUM_TOO_LARGE},
     Answer,
 };
 use crate::cells::CellMap;
@@ -51,7 +51,7 @@ fn incr_swept(
     };
     // "A sum out of range is 11, before anything but the sweep has changed."
     let Some(sum) = initial.checked_add(step) else {
-        return Answer::refused(SUM_OUT_OF_RANGE);
+        return Answer::refused(SUM_TOO_LARGE);
     };
     // "Missing or dead with an initial number: store initial + step, flags 0, as a plain set would."
     let item = Item { key, kind: kind::NUMBER, value: &sum.to_le_bytes(), flags: 0, expiry };
@@ -66,11 +66,11 @@ fn incr_swept(
 fn incr_live(dir: &mut [u64], pool: &mut [u8], slot: usize, step: i64) -> Answer {
     let found = entry(dir, slot);
     if found.kind != u64::from(kind::NUMBER) {
-        return Answer::refused(NOT_A_NUMBER);
+        return Answer::refused(NOT_NUMBER);
     }
     // "A sum out of range is 11, before anything but the sweep has changed."
     let Some(sum) = found.number(pool).checked_add(step) else {
-        return Answer::refused(SUM_OUT_OF_RANGE);
+        return Answer::refused(SUM_TOO_LARGE);
     };
     pool[found.value()].copy_from_slice(&sum.to_le_bytes());
     move_to_front(dir, slot);

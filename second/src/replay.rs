@@ -3,7 +3,7 @@
 //! The memory is a directory and a pool for P = 1,024, of which each `fresh` uses the front (decisions 53 and 54 of
 //! docs/DECISIONS.md).
 
-use crate::answer::{outcome::NOT_UNDERSTOOD, Answer};
+use crate::answer::{outcome::LINE_UNREADABLE, Answer};
 use crate::cells::{CELL, MOST_CELLS};
 use crate::directory::{kind, HEAD, RECORD};
 use crate::{bytes_at, delete, get, make_fresh, set};
@@ -19,7 +19,7 @@ pub fn replay(input: &[u8]) -> Vec<u8> {
     for (line, call) in lines(input).zip(1..) {
         let answer = match parse(line) {
             Some(parsed) => memory.run(&parsed),
-            None => Answer::refused(NOT_UNDERSTOOD),
+            None => Answer::refused(LINE_UNREADABLE),
         };
         let value = value_column(&answer, memory.pool());
         print_line(&mut output, call, &answer, &value);

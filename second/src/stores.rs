@@ -1,7 +1,7 @@
 //! The stores set, safe_set, add, safe_add and replace; and delete, which a set of nil is.
 
 use crate::answer::{
-    outcome::{EXISTS, NIL, NOT_FOUND},
+    outcome::{EXISTS, NIL_REFUSED, NOT_FOUND},
     Answer,
 };
 use crate::cells::CellMap;
@@ -126,7 +126,7 @@ fn check_store(
     let cells = check_keyed(dir, pool, clock, key)?; // 1 2 3 4
     check_kind(given.kind)?; // 5
     if given.kind == kind::NIL && !form.takes_nil() {
-        return Err(NIL); // 6
+        return Err(NIL_REFUSED); // 6
     }
     let expiry = check_lifetime(clock, given.lifetime)?; // 7
     Ok((cells, expiry))
