@@ -1,6 +1,6 @@
 -- `counting::incr` meets its contract.
 use mathlib.Core.Path.{sym, ◌∙◌}
-use Rattle.counting.specs.CountingLaws.{incr_refused, incr_done}
+use Rattle.counting.proofs.CountingLaws.{incr_refused, incr_done}
 use Rattle.counting.proofs.incr.Goals as goal
 
 pub returns-in-Refused : goal.returns-in-Refused

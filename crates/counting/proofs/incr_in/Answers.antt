@@ -1,5 +1,5 @@
 -- `counting::incr_in` meets its contract.
-use Rattle.counting.specs.CountingLaws.{step_held_found, incr_sound, countable}
+use Rattle.counting.proofs.CountingLaws.{step_held_found, incr_sound, countable}
 use Rattle.rules.specs.Calls.{incr_work, incr_found}
 use Rattle.rules.specs.LookUp.{look_up}
 use Rattle.eviction.specs.Swept.{still_sound, behind_sweep}

@@ -3,7 +3,7 @@ use mathlib.Core.Path.{refl}
 use Rattle.values.specs.Bits.{held_is}
 use mir.Syntax.{w64}
 use mir.Facts.{to_z-of_z}
-use Rattle.counting.specs.CountingLaws.{add_told, given_in_time, initial_absent, initial_out, initial_storable, initial_does}
+use Rattle.counting.proofs.CountingLaws.{add_told, given_in_time, initial_absent, initial_out, initial_storable, initial_does}
 use Rattle.laws.specs.Buffers.{given_sound}
 use borrow.Author.Rules.{rules}
 use Rattle.counting.proofs.incr_initial.Goals as goal

@@ -1,7 +1,7 @@
 -- `counting::incr_live` meets its contract.
 use mathlib.Core.Path.{ap, sym, ◌∙◌}
 use lib.ListN.{length}
-use Rattle.counting.specs.CountingLaws.{add_told, live_not, number_eight, live_out, live_sum}
+use Rattle.counting.proofs.CountingLaws.{add_told, live_not, number_eight, live_out, live_sum}
 use mir.Syntax.{w64}
 use mir.Facts.{to_z-of_z}
 use Rattle.laws.specs.NumberLaws.{length_number}

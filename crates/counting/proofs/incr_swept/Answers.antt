@@ -1,5 +1,5 @@
 -- `counting::incr_swept` meets its contract.
-use Rattle.counting.specs.CountingLaws.{step_held, step_held_initial, found_live, found_else}
+use Rattle.counting.proofs.CountingLaws.{step_held, step_held_initial, found_live, found_else}
 use Rattle.laws.specs.Meant.{live_there}
 use Rattle.counting.proofs.incr_swept.Goals as goal
 

@@ -1,6 +1,6 @@
 -- `listing::keys_for` meets its contract.
 use lib.Seq.{length-take-le}
-use Rattle.listing.specs.Told.{keys_told}
+use Rattle.listing.proofs.ToldLaws.{keys_told}
 use mathlib.Core.Path.{refl, sym, ap}
 use Prim.Native.Nat.{ℕ, ◌*◌}
 use native.Mathlib.Omega.{arith}

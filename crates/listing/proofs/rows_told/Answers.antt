@@ -1,5 +1,5 @@
 -- `listing::rows_told` meets its contract.
-use Rattle.listing.specs.Told.{tells_count, tells_none}
+use Rattle.listing.proofs.ToldLaws.{tells_count, tells_none}
 use Rattle.listing.proofs.rows_told.Goals as goal
 
 pub returns-in_default : goal.returns-in_default
