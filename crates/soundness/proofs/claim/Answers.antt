@@ -13,5 +13,8 @@ returns-then-size-le32 c = claimed_one c.args.start (omega arith) c.if-map-start
 pub returns-then-map-end : goal.returns-then-map-end
 returns-then-map-end c = claimed_long c.args.start (omega (arith, length-set c.args.map.now c.args.start 1))
 
+pub claim_from-requires : goal.claim_from-requires
+claim_from-requires c = (omega arith, omega (arith, length-set c.args.map.now c.args.start 1))
+
 pub returns : goal.returns
 returns c = claimed_rest c.args.start (omega arith) c.if-map-start-ne0.false (omega arith) c.claim_from.ensures
