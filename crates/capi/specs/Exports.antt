@@ -1,11 +1,11 @@
 -- A call's result handed to another language. A signed argument reaches the call as its bits, which is the same number.
-use Rattle.std.specs.Prelude.{◌≡◌, Bool, true, false, List, ℕ, ℤ}
+use Rattle.std.specs.Prelude.{◌≡◌, Bool, true, false, List, ℕ, ℤ, Option, None}
 use Rattle.std.proofs.Common.{ap, ◌∙◌, SFits, to_z-of_z}
 use Rattle.std.specs.Int.{w64}
 use Rattle.rules.specs.declared.Answer.{Answer}
 use Rattle.rules.specs.declared.Operation.{Operation}
 use Rattle.rules.specs.declared.Initial.{Initial}
-use Rattle.rules.specs.declared.Initial.TheVariants.{Given, Absent}
+use Rattle.rules.specs.Outcome.{given}
 use Rattle.rules.specs.Answer.{answer_words}
 use Rattle.rules.specs.Calls.{Result, gave, store_call, incr_call, FlatListing, flat_listing}
 use Rattle.rules.specs.Exports.{Exported, ExportedListing, initial_of}
@@ -36,19 +36,19 @@ handed_store op dir pool clock key kind number text lifetime flags f e w =
 
 -- ---- incr
 
-module _ (given : Bool) (number : ℤ) (lifetime : ℕ) where
-  pub initial_given : SFits w64 number → given ≡ true → Given (held number) lifetime ≡ initial_of given number lifetime
+module _ (has_initial : Bool) (number : ℤ) (lifetime : ℕ) where
+  pub initial_given : SFits w64 number → has_initial ≡ true → given (held number) lifetime ≡ initial_of has_initial number lifetime
   unfolding initial_of
-  initial_given f t = simp t (ap (λ (z : ℤ). Given z lifetime) (to_z-of_z {w = w64} f))
+  initial_given f t = simp t (ap (λ (z : ℤ). given z lifetime) (to_z-of_z {w = w64} f))
 
-  pub initial_absent : given ≡ false → Absent ≡ initial_of given number lifetime
+  pub initial_absent : has_initial ≡ false → None ≡ initial_of has_initial number lifetime
   unfolding initial_of
   initial_absent t = simp t
 
-pub handed_incr : (dir pool : List ℕ) (clock : ℕ) (key : List ℕ) (step : ℤ) (given : Bool) (number : ℤ) (lifetime : ℕ) {begin : Initial} {a : Answer} {words dir₁ pool₁ : List ℕ} → SFits w64 step → SFits w64 number → begin ≡ initial_of given (held number) lifetime → gave a dir₁ pool₁ ≡ incr_call dir pool clock key (held step) begin → words ≡ answer_words a → Exported (incr_call dir pool clock key step (initial_of given number lifetime)) words dir₁ pool₁
-handed_incr dir pool clock key step given number lifetime {begin} s f b e w =
+pub handed_incr : (dir pool : List ℕ) (clock : ℕ) (key : List ℕ) (step : ℤ) (has_initial : Bool) (number : ℤ) (lifetime : ℕ) {begin : Option Initial} {a : Answer} {words dir₁ pool₁ : List ℕ} → SFits w64 step → SFits w64 number → begin ≡ initial_of has_initial (held number) lifetime → gave a dir₁ pool₁ ≡ incr_call dir pool clock key (held step) begin → words ≡ answer_words a → Exported (incr_call dir pool clock key step (initial_of has_initial number lifetime)) words dir₁ pool₁
+handed_incr dir pool clock key step has_initial number lifetime {begin} s f b e w =
     handed
     (e
     ∙ ap (λ (z : ℤ). incr_call dir pool clock key z begin) (to_z-of_z {w = w64} s)
-    ∙ ap (incr_call dir pool clock key step) (b ∙ ap (λ (z : ℤ). initial_of given z lifetime) (to_z-of_z {w = w64} f)))
+    ∙ ap (incr_call dir pool clock key step) (b ∙ ap (λ (z : ℤ). initial_of has_initial z lifetime) (to_z-of_z {w = w64} f)))
     w

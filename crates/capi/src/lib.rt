@@ -9,7 +9,7 @@ ghost use Rattle.rules.specs.Calls.{fresh_call, get_call, get_stale_call, ttl_ca
 ghost use Rattle.rules.specs.Exports.{Exported, ExportedListing, initial_of, bytes_place, show_place};
 
 use rules::{Answer, Found, Initial};
-use telling::{bit, tell};
+
 
 // ---- an answer as words
 
@@ -17,14 +17,13 @@ use telling::{bit, tell};
 fn answer_words(a: Answer) -> [u64; 10]
     ensures { result ≡ answer_words a }
 {
-    let o = a.outcome;
-    let t = tell(o);
+    let t = telling::tell(a.outcome);
     [
         t.answer,
         a.rounds as u64,
         a.removed as u64,
-        bit(a.forced),
-        bit(a.stale),
+        u64::from(a.forced),
+        u64::from(a.stale),
         t.kind,
         t.flags,
         t.bits,
@@ -242,13 +241,13 @@ pub extern "C" fn reefcandor_replace(
 // ---- incr
 
 // The initial number of an incr, if it has one, and its lifetime.
-fn initial_of(given: bool, number: i64, lifetime: u64) -> Initial
-    ensures { result ≡ initial_of given number lifetime }
+fn initial_of(has_initial: bool, number: i64, lifetime: u64) -> Option<Initial>
+    ensures { result ≡ initial_of has_initial number lifetime }
 {
-    if given {
-        return Initial::Given { number, lifetime };
+    if has_initial {
+        return Some(Initial { number, lifetime });
     }
-    Initial::Absent
+    None
 }
 
 // incr: adds the step to a live number; a missing or dead one begins with the initial number where has_initial is set, else 8. Sweeps first.

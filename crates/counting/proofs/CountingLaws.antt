@@ -1,5 +1,5 @@
 -- The ways of an incr: over a live entry, from an initial number, and behind its sweep.
-use Rattle.std.specs.Prelude.{◌≡◌, refl, Bool, false, ℕ, ◌≤◌, ◌<◌, eqb, get_or, ℤ, ◌+ℤ◌}
+use Rattle.std.specs.Prelude.{◌≡◌, refl, Bool, false, ℕ, ◌≤◌, ◌<◌, eqb, get_or, ℤ, ◌+ℤ◌, Ok, Err, Option, Some, None}
 use Rattle.std.proofs.Math.Path.{sym, ap, subst}
 use Rattle.std.proofs.Common.{◌∙◌, arith, to_z, of_z, SFits, to_z-of_z, eq-eqb, ne_eqb}
 use Rattle.std.proofs.Math.Bool.{true, cond}
@@ -8,14 +8,13 @@ use Rattle.std.proofs.Math.ListN.{length}
 use Rattle.std.specs.Int.{w64}
 use Rattle.rules.specs.declared.Entry.{Entry}
 use Rattle.rules.specs.declared.Answer.{Answer}
-use Rattle.rules.specs.declared.Outcome.{Outcome}
-use Rattle.rules.specs.declared.Outcome.TheVariants.{Sum, ExpiryTooLate, NotFound, NotNumber, SumTooLarge}
-use Rattle.rules.specs.declared.Check.{Check}
-use Rattle.rules.specs.declared.Check.TheVariants.{Passed, Refused}
+use Rattle.rules.specs.declared.Reply.TheVariants.{Sum}
+use Rattle.rules.specs.declared.Refusal.TheVariants.{ExpiryTooLate, NotFound, NotNumber, SumTooLarge}
+use Rattle.rules.specs.Outcome.{Check}
 use Rattle.rules.specs.declared.Found.{Found}
 use Rattle.rules.specs.declared.Found.TheVariants.{Live, Dead, Missing}
 use Rattle.rules.specs.declared.Initial.{Initial}
-use Rattle.rules.specs.declared.Initial.TheVariants.{Given, Absent}
+use Rattle.rules.specs.Outcome.{given}
 use Rattle.rules.specs.Layout.{entries_of, none, number_bytes, number_at, Dir, Memory, memory_of}
 use Rattle.rules.specs.Time.{expiry_of, too_late}
 use Rattle.rules.specs.Soundness.{sound}
@@ -41,6 +40,7 @@ use Rattle.values.specs.declared.Sum.TheVariants.{Is, OutOfRange}
 use Rattle.storing.specs.declared.Order.{Order}
 use Rattle.storing.specs.Order.{item_from, Storable}
 use Rattle.counting.specs.Counting.{incr_at, InTime, Countable}
+use Rattle.rules.specs.declared.Refusal.{Refusal}
 
 -- a sum that was told, of the numbers as they are
 pub add_told : {a b x y : ℤ} {t u : S.Sum} → a ≡ x → b ≡ y → t ≡ sum_of (a +ℤ b) → t ≡ u → sum_of (x +ℤ y) ≡ u
@@ -64,30 +64,30 @@ module _ (dir pool : List ℕ) (step : ℤ) (removed i : ℕ) (e : Entry) (x : e
   sum = number_at pool e +ℤ step
 
   abbrev at : Bool → Work
-  at b = cond b (incr_live removed m i sum) (did NotNumber removed m)
+  at b = cond b (incr_live removed m i sum) (did (Err NotNumber) removed m)
 
   at_is : (b : Bool) → eqb e.kind 3 ≡ b → at b ≡ incr_at step removed m i
   unfolding incr_at memory_of
   at_is b k =
-      sym (ap (λ (f : Entry). cond (eqb f.kind 3) (incr_live removed m i (number_at pool f +ℤ step)) (did NotNumber removed m)) (sym x) ∙ ap at k)
+      sym (ap (λ (f : Entry). cond (eqb f.kind 3) (incr_live removed m i (number_at pool f +ℤ step)) (did (Err NotNumber) removed m)) (sym x) ∙ ap at k)
 
-  pub live_not : (a : Answer) → Dir dir → (e.kind ≡ 3 → ⊥) → a ≡ plain NotNumber removed → Does (incr_at step removed m i) (length dir) a dir pool
+  pub live_not : (a : Answer) → Dir dir → (e.kind ≡ 3 → ⊥) → a ≡ plain (Err NotNumber) removed → Does (incr_at step removed m i) (length dir) a dir pool
   live_not a d n q = does_is (at_is false (ne_eqb e.kind 3 n)) (record { answer = q; memory = holds_itself dir pool d })
 
-  sum_is : (b : Bool) → e.kind ≡ 3 → in_range sum ≡ b → cond b (did (Sum sum) removed (add_at i sum m)) (did SumTooLarge removed m) ≡ incr_at step removed m i
+  sum_is : (b : Bool) → e.kind ≡ 3 → in_range sum ≡ b → cond b (did (Ok (Sum sum)) removed (add_at i sum m)) (did (Err SumTooLarge) removed m) ≡ incr_at step removed m i
   unfolding incr_live
-  sum_is b k r = sym (ap (λ (y : Bool). cond y (did (Sum sum) removed (add_at i sum m)) (did SumTooLarge removed m)) r) ∙ at_is true (eq-eqb e.kind 3 k)
+  sum_is b k r = sym (ap (λ (y : Bool). cond y (did (Ok (Sum sum)) removed (add_at i sum m)) (did (Err SumTooLarge) removed m)) r) ∙ at_is true (eq-eqb e.kind 3 k)
 
-  pub live_out : (a : Answer) → Dir dir → e.kind ≡ 3 → sum_of sum ≡ OutOfRange → a ≡ plain SumTooLarge removed → Does (incr_at step removed m i) (length dir) a dir pool
+  pub live_out : (a : Answer) → Dir dir → e.kind ≡ 3 → sum_of sum ≡ OutOfRange → a ≡ plain (Err SumTooLarge) removed → Does (incr_at step removed m i) (length dir) a dir pool
   live_out a d k o q = does_is (sum_is false k (sum_refused sum o)) (record { answer = q; memory = holds_itself dir pool d })
 
-  pub live_sum : (a : Answer) (z : ℤ) {bytes dir' pool' : List ℕ} → e.kind ≡ 3 → sum_of sum ≡ Is z → bytes ≡ number_bytes (held z) → Holds (length dir) (rewrite_at i e bytes m) dir' pool' → a ≡ plain (Sum (held z)) removed → Does (incr_at step removed m i) (length dir) a dir' pool'
+  pub live_sum : (a : Answer) (z : ℤ) {bytes dir' pool' : List ℕ} → e.kind ≡ 3 → sum_of sum ≡ Is z → bytes ≡ number_bytes (held z) → Holds (length dir) (rewrite_at i e bytes m) dir' pool' → a ≡ plain (Ok (Sum (held z))) removed → Does (incr_at step removed m i) (length dir) a dir' pool'
   unfolding add_at memory_of
   live_sum a z {bytes} {dir'} {pool'} k o b h q =
       let s : held z ≡ sum = told_held sum z o in
       does_is (sum_is true k (sum_told sum z o).range)
       (record {
-        answer = q ∙ ap (λ (y : ℤ). plain (Sum y) removed) s;
+        answer = q ∙ ap (λ (y : ℤ). plain (Ok (Sum y)) removed) s;
         memory = subst (λ (f : Entry). Holds (length dir) (rewrite_at i f (number_bytes sum) m) dir' pool') x (subst (λ (l : List ℕ). Holds (length dir) (rewrite_at i e l m) dir' pool') (b ∙ ap number_bytes s) h);
       })
 
@@ -102,22 +102,22 @@ pub record Initially (clock lifetime : ℕ) (z : ℤ) (removed : ℕ) (o : Order
   pub of_told : o.told ≡ Sum (held z)
   pub of_removed : o.removed ≡ removed
 
-module _ (clock : ℕ) (key : List ℕ) (step : ℤ) (removed : ℕ) (dir pool : List ℕ) (found : Found) (initial : Initial) where
-  abbrev initially : Initial → Work
+module _ (clock : ℕ) (key : List ℕ) (step : ℤ) (removed : ℕ) (dir pool : List ℕ) (found : Found) (initial : Option Initial) where
+  abbrev initially : Option Initial → Work
   initially = incr_initial clock key step removed (memory_of dir pool) found
 
-  pub initial_absent : (a : Answer) → Dir dir → initial ≡ Absent → a ≡ plain NotFound removed → Does (initially initial) (length dir) a dir pool
+  pub initial_absent : (a : Answer) → Dir dir → initial ≡ None → a ≡ plain (Err NotFound) removed → Does (initially initial) (length dir) a dir pool
   unfolding incr_initial
   initial_absent a d e q = does_is (sym (ap initially e)) (record { answer = q; memory = holds_itself dir pool d })
 
-  module _ (number : ℤ) (lifetime : ℕ) (given : initial ≡ Given number lifetime) where
-    new_is : (b : Bool) → in_range (number +ℤ step) ≡ b → cond b (store_item 30 clock (item_of clock key 3 (number +ℤ step) [] lifetime 0) (Sum (number +ℤ step)) removed (memory_of dir pool) found) (did SumTooLarge removed (memory_of dir pool)) ≡ initially initial
+  module _ (number : ℤ) (lifetime : ℕ) (is_given : initial ≡ given number lifetime) where
+    new_is : (b : Bool) → in_range (number +ℤ step) ≡ b → cond b (store_item 30 clock (item_of clock key 3 (number +ℤ step) [] lifetime 0) (Ok (Sum (number +ℤ step))) removed (memory_of dir pool) found) (did (Err SumTooLarge) removed (memory_of dir pool)) ≡ initially initial
     unfolding incr_initial incr_new most_rounds
     new_is b r =
-        sym (ap initially given
-        ∙ ap (λ (y : Bool). cond y (store_item 30 clock (item_of clock key 3 (number +ℤ step) [] lifetime 0) (Sum (number +ℤ step)) removed (memory_of dir pool) found) (did SumTooLarge removed (memory_of dir pool))) r)
+        sym (ap initially is_given
+        ∙ ap (λ (y : Bool). cond y (store_item 30 clock (item_of clock key 3 (number +ℤ step) [] lifetime 0) (Ok (Sum (number +ℤ step))) removed (memory_of dir pool) found) (did (Err SumTooLarge) removed (memory_of dir pool))) r)
 
-    pub initial_out : (a : Answer) → Dir dir → sum_of (number +ℤ step) ≡ OutOfRange → a ≡ plain SumTooLarge removed → Does (initially initial) (length dir) a dir pool
+    pub initial_out : (a : Answer) → Dir dir → sum_of (number +ℤ step) ≡ OutOfRange → a ≡ plain (Err SumTooLarge) removed → Does (initially initial) (length dir) a dir pool
     initial_out a d o q = does_is (new_is false (sum_refused (number +ℤ step) o)) (record { answer = q; memory = holds_itself dir pool d })
 
     -- "store initial + step, flags 0, as a plain set would"
@@ -137,36 +137,36 @@ module _ (clock : ℕ) (key : List ℕ) (step : ℤ) (removed : ℕ) (dir pool :
             swept = omega (arith, c.swept, order.of_removed);
           }
 
-      pub initial_does : {a : Answer} {dir' pool' : List ℕ} → Does (store_item o.most clock (item_from o key bytes) o.told o.removed (memory_of dir pool) found) (length dir) a dir' pool' → Does (initially initial) (length dir) a dir' pool'
+      pub initial_does : {a : Answer} {dir' pool' : List ℕ} → Does (store_item o.most clock (item_from o key bytes) (Ok o.told) o.removed (memory_of dir pool) found) (length dir) a dir' pool' → Does (initially initial) (length dir) a dir' pool'
       initial_does d =
           does_is (new_is true (sum_told (number +ℤ step) z told).range)
           (does_is (rw (item_is, order.of_most, order.of_told, order.of_removed, told_held (number +ℤ step) z told)) d)
 
 -- ---- by what was found
 
-pub found_live : (clock : ℕ) (key : List ℕ) (step : ℤ) (initial : Initial) (removed : ℕ) (m : Memory) {n : ℕ} {a : Answer} {dir pool : List ℕ} (found f : Found) (i : ℕ) → found ≡ f → found ≡ Live i → Does (incr_at step removed m i) n a dir pool → Does (incr_found clock key step initial removed m f) n a dir pool
+pub found_live : (clock : ℕ) (key : List ℕ) (step : ℤ) (initial : Option Initial) (removed : ℕ) (m : Memory) {n : ℕ} {a : Answer} {dir pool : List ℕ} (found f : Found) (i : ℕ) → found ≡ f → found ≡ Live i → Does (incr_at step removed m i) n a dir pool → Does (incr_found clock key step initial removed m f) n a dir pool
 unfolding incr_found incr_at
 found_live clock key step initial removed m found f i x e d = does_is (sym (ap (incr_found clock key step initial removed m) (sym x ∙ e))) d
 
-not_live_is : (clock : ℕ) (key : List ℕ) (step : ℤ) (initial : Initial) (removed : ℕ) (m : Memory) (found : Found) → NoLive found → incr_initial clock key step removed m found initial ≡ incr_found clock key step initial removed m found
+not_live_is : (clock : ℕ) (key : List ℕ) (step : ℤ) (initial : Option Initial) (removed : ℕ) (m : Memory) (found : Found) → NoLive found → incr_initial clock key step removed m found initial ≡ incr_found clock key step initial removed m found
 unfolding incr_found
 not_live_is clock key step initial removed m (Live i) n = absurd (n i refl)
 not_live_is clock key step initial removed m (Dead i) n = refl
 not_live_is clock key step initial removed m Missing n = refl
 
-pub found_else : (clock : ℕ) (key : List ℕ) (step : ℤ) (initial : Initial) (removed : ℕ) (m : Memory) {n : ℕ} {a : Answer} {dir pool : List ℕ} (found f : Found) → found ≡ f → NoLive found → Does (incr_initial clock key step removed m found initial) n a dir pool → Does (incr_found clock key step initial removed m f) n a dir pool
+pub found_else : (clock : ℕ) (key : List ℕ) (step : ℤ) (initial : Option Initial) (removed : ℕ) (m : Memory) {n : ℕ} {a : Answer} {dir pool : List ℕ} (found f : Found) → found ≡ f → NoLive found → Does (incr_initial clock key step removed m found initial) n a dir pool → Does (incr_found clock key step initial removed m f) n a dir pool
 found_else clock key step initial removed m found f x w d =
     does_is (not_live_is clock key step initial removed m found w ∙ ap (incr_found clock key step initial removed m) x) d
 
 -- ---- behind the checks
 
-initial_in_time : (clock : ℕ) (initial : Initial) → Passed ≡ check_initial clock initial → InTime clock initial
+initial_in_time : (clock : ℕ) (initial : Option Initial) → (Ok tt) ≡ check_initial clock initial → InTime clock initial
 unfolding check_initial check_lifetime
-initial_in_time clock (Given number lifetime) e = refused_not ExpiryTooLate (too_late clock lifetime) e
-initial_in_time clock Absent e = tt
+initial_in_time clock (Some begin) e = refused_not ExpiryTooLate (too_late clock begin.lifetime) e
+initial_in_time clock None e = tt
 
-module _ (dir pool : List ℕ) (clock : ℕ) (key : List ℕ) (initial : Initial) (p : Passed ≡ incr_checks dir pool clock key initial) where
-  keyed : Passed ≡ key_checks dir pool clock key
+module _ (dir pool : List ℕ) (clock : ℕ) (key : List ℕ) (initial : Option Initial) (p : (Ok tt) ≡ incr_checks dir pool clock key initial) where
+  keyed : (Ok tt) ≡ key_checks dir pool clock key
   unfolding incr_checks
   keyed = then_first (key_checks dir pool clock key) (check_initial clock initial) p
 
@@ -186,29 +186,29 @@ module _ (dir pool : List ℕ) (clock : ℕ) (key : List ℕ) (initial : Initial
 
 -- ---- the call
 
-module _ (dir pool : List ℕ) (clock : ℕ) (key : List ℕ) (step : ℤ) (initial : Initial) where
+module _ (dir pool : List ℕ) (clock : ℕ) (key : List ℕ) (step : ℤ) (initial : Option Initial) where
   abbrev is_call : Result → Type 0
   is_call r = r ≡ incr_call dir pool clock key step initial
 
-  loses : (x : Initial) {r : Result} → r ≡ incr_call dir pool clock key step x → IncrLosesLeast dir pool clock key step x r
-  loses Absent e = tt
-  loses (Given number lifetime) e =
-      λ p. subst (LeastLossOf clock (item_of clock key 3 (number +ℤ step) [] lifetime 0) dir pool) (sym e) (demand_3.incrs dir pool clock key step (Given number lifetime) p)
+  loses : (x : Option Initial) {r : Result} → r ≡ incr_call dir pool clock key step x → IncrLosesLeast dir pool clock key step x r
+  loses None e = tt
+  loses (Some begin) e =
+      λ p. subst (LeastLossOf clock (item_of clock key 3 (begin.number +ℤ step) [] begin.lifetime 0) dir pool) (sym e) (demand_3.incrs dir pool clock key step (Some begin) p)
 
   losing : {r : Result} → is_call r → is_call r × IncrLosesLeast dir pool clock key step initial r
   losing e = (e, loses initial e)
 
-  pub incr_refused : (c : Check) (o : Outcome) (a : Answer) → c ≡ incr_checks dir pool clock key initial → c ≡ Refused o → a ≡ plain o 0 → is_call (gave a dir pool) × IncrLosesLeast dir pool clock key step initial (gave a dir pool)
+  pub incr_refused : (c : Check) (o : Refusal) (a : Answer) → c ≡ incr_checks dir pool clock key initial → c ≡ Err o → a ≡ plain (Err o) 0 → is_call (gave a dir pool) × IncrLosesLeast dir pool clock key step initial (gave a dir pool)
   unfolding incr_call
   incr_refused c o a e q s = losing (gave_refused (incr_checks dir pool clock key initial) (incr_work clock key step initial) dir pool o a (sym e ∙ q) s)
 
-  pub incr_done : (a : Answer) (dir₁ pool₁ : List ℕ) → SFits w64 step → Passed ≡ incr_checks dir pool clock key initial → Does (incr_work clock key (to_z w64 (of_z w64 step)) initial (memory_of dir pool)) (length dir) a dir₁ pool₁ → is_call (gave a dir₁ pool₁) × IncrLosesLeast dir pool clock key step initial (gave a dir₁ pool₁)
+  pub incr_done : (a : Answer) (dir₁ pool₁ : List ℕ) → SFits w64 step → (Ok tt) ≡ incr_checks dir pool clock key initial → Does (incr_work clock key (to_z w64 (of_z w64 step)) initial (memory_of dir pool)) (length dir) a dir₁ pool₁ → is_call (gave a dir₁ pool₁) × IncrLosesLeast dir pool clock key step initial (gave a dir₁ pool₁)
   unfolding incr_call
   incr_done a dir₁ pool₁ f p d =
       losing (gave_passed (incr_checks dir pool clock key initial) (incr_work clock key step initial) dir pool a dir₁ pool₁ (sym p)
       (subst (λ (z : ℤ). Does (incr_work clock key z initial (memory_of dir pool)) (length dir) a dir₁ pool₁) (to_z-of_z {w = w64} f) d))
 
-pub given_in_time : (clock : ℕ) (initial : Initial) (number : ℤ) (lifetime : ℕ) → initial ≡ Given number lifetime → InTime clock initial → too_late clock lifetime ≡ false
+pub given_in_time : (clock : ℕ) (initial : Option Initial) (number : ℤ) (lifetime : ℕ) → initial ≡ given number lifetime → InTime clock initial → too_late clock lifetime ≡ false
 given_in_time clock initial number lifetime e t = subst (InTime clock) e t
 
 -- ---- a step as a callee gets it
@@ -217,8 +217,8 @@ module _ {n : ℕ} {a : Answer} {dir pool : List ℕ} where
   pub step_held : (step : ℤ) (removed : ℕ) (m : Memory) (i : ℕ) → SFits w64 step → Does (incr_at (held step) removed m i) n a dir pool → Does (incr_at step removed m i) n a dir pool
   step_held step removed m i f d = does_is (ap (λ (z : ℤ). incr_at z removed m i) (to_z-of_z {w = w64} f)) d
 
-  pub step_held_initial : (clock : ℕ) (key : List ℕ) (step : ℤ) (removed : ℕ) (m : Memory) (found : Found) (initial : Initial) → SFits w64 step → Does (incr_initial clock key (held step) removed m found initial) n a dir pool → Does (incr_initial clock key step removed m found initial) n a dir pool
+  pub step_held_initial : (clock : ℕ) (key : List ℕ) (step : ℤ) (removed : ℕ) (m : Memory) (found : Found) (initial : Option Initial) → SFits w64 step → Does (incr_initial clock key (held step) removed m found initial) n a dir pool → Does (incr_initial clock key step removed m found initial) n a dir pool
   step_held_initial clock key step removed m found initial f d = does_is (ap (λ (z : ℤ). incr_initial clock key z removed m found initial) (to_z-of_z {w = w64} f)) d
 
-  pub step_held_found : (clock : ℕ) (key : List ℕ) (step : ℤ) (initial : Initial) (removed : ℕ) (m : Memory) (found : Found) → SFits w64 step → Does (incr_found clock key (held step) initial removed m found) n a dir pool → Does (incr_found clock key step initial removed m found) n a dir pool
+  pub step_held_found : (clock : ℕ) (key : List ℕ) (step : ℤ) (initial : Option Initial) (removed : ℕ) (m : Memory) (found : Found) → SFits w64 step → Does (incr_found clock key (held step) initial removed m found) n a dir pool → Does (incr_found clock key step initial removed m found) n a dir pool
   step_held_found clock key step initial removed m found f d = does_is (ap (λ (z : ℤ). incr_found clock key z initial removed m found) (to_z-of_z {w = w64} f)) d

@@ -1,17 +1,16 @@
 // incr: a live number is added to, and a missing or dead one begins with an initial number where one is given.
 #![tactic(auto)]
 
-ghost use Rattle.std.specs.Prelude.{◌≡◌, true, ◌<◌, length};
+ghost use Rattle.std.specs.Prelude.{◌≡◌, true, ◌<◌, length, Ok};
 ghost use Rattle.rules.specs.Layout.{entries_of, memory_of};
 ghost use Rattle.rules.specs.LookUp.{look_up};
 ghost use Rattle.rules.specs.Soundness.{sound};
 ghost use Rattle.rules.specs.Checks.{incr_checks};
 ghost use Rattle.rules.specs.LeastLoss.{IncrLosesLeast};
 ghost use Rattle.rules.specs.Calls.{gave, Does, incr_found, incr_initial, incr_work, incr_call};
-ghost use Rattle.rules.specs.declared.Check.TheVariants.{Passed};
 ghost use Rattle.counting.specs.Counting.{incr_at, Countable};
 
-use rules::{Answer, Check, Found, Initial, Outcome};
+use rules::{Answer, Found, Initial, Refusal, Reply};
 use storing::Order;
 use values::Sum;
 
@@ -23,15 +22,15 @@ fn incr_live(dir: &mut [u64], pool: &mut [u8], i: usize, step: i64, removed: usi
 {
     let e = directory::record_at(dir, i);
     if e.kind != 3 {
-        return Answer::plain(Outcome::NotNumber, removed);
+        return Answer::plain(Err(Refusal::NotNumber), removed);
     }
     let sum = values::add(values::number_at(pool, e), step);
     let Sum::Is(number) = sum else {
-        return Answer::plain(Outcome::SumTooLarge, removed); // nothing is stored
+        return Answer::plain(Err(Refusal::SumTooLarge), removed); // nothing is stored
     };
     let bytes = values::number_bytes(number);
     storing::rewrite_at(dir, pool, i, e, &bytes[..]);
-    Answer::plain(Outcome::Sum(number), removed)
+    Answer::plain(Ok(Reply::Sum(number)), removed)
 }
 
 // Stores the initial number plus the step, as a plain set would; without an initial number 8, and a sum out of range 11.
@@ -41,7 +40,7 @@ fn incr_initial(
     clock: u64,
     key: &[u8],
     step: i64,
-    initial: Initial,
+    initial: Option<Initial>,
     found: Found,
     removed: usize,
 ) -> Answer
@@ -50,20 +49,20 @@ fn incr_initial(
     requires found_value { found ≡ look_up clock key.now (memory_of dir.old pool.old) }
     ensures { Does (incr_initial clock key.now step removed (memory_of dir.old pool.old) found initial) (length dir.old) result dir.new pool.new }
 {
-    let Initial::Given { number, lifetime } = initial else {
-        return Answer::plain(Outcome::NotFound, removed);
+    let Some(begin) = initial else {
+        return Answer::plain(Err(Refusal::NotFound), removed);
     };
-    let sum = values::add(number, step);
+    let sum = values::add(begin.number, step);
     let Sum::Is(total) = sum else {
-        return Answer::plain(Outcome::SumTooLarge, removed);
+        return Answer::plain(Err(Refusal::SumTooLarge), removed);
     };
     let bytes = values::number_bytes(total);
     let order = Order {
-        expiry: time::expiry_of(clock, lifetime),
+        expiry: time::expiry_of(clock, begin.lifetime),
         kind: 3,
         flags: 0,
         most: 30,
-        told: Outcome::Sum(total),
+        told: Reply::Sum(total),
         removed,
     };
     storing::store_item(dir, pool, clock, key, &bytes[..], order, found)
@@ -76,7 +75,7 @@ fn incr_swept(
     clock: u64,
     key: &[u8],
     step: i64,
-    initial: Initial,
+    initial: Option<Initial>,
     removed: usize,
 ) -> Answer
     requires pool_value { sound dir.old pool.old ≡ true }
@@ -97,9 +96,9 @@ pub fn incr_in(
     clock: u64,
     key: &[u8],
     step: i64,
-    initial: Initial,
+    initial: Option<Initial>,
 ) -> Answer
-    requires { Passed ≡ incr_checks dir.old pool.old clock key.now initial }
+    requires { (Ok tt) ≡ incr_checks dir.old pool.old clock key.now initial }
     ensures { Does (incr_work clock key.now step initial (memory_of dir.old pool.old)) (length dir.old) result dir.new pool.new }
 {
     let removed = eviction::sweep(dir, pool, clock);
@@ -113,14 +112,14 @@ pub fn incr(
     clock: u64,
     key: &[u8],
     step: i64,
-    initial: Initial,
+    initial: Option<Initial>,
 ) -> Answer
     ensures result { gave result dir.new pool.new ≡ incr_call dir.old pool.old clock key.now step initial }
     ensures least_loss { IncrLosesLeast dir.old pool.old clock key.now step initial (gave result dir.new pool.new) }
 {
     let check = checks::of_incr(dir, pool, clock, key, initial);
-    if let Check::Refused(o) = check {
-        return Answer::plain(o, 0);
+    if let Err(refusal) = check {
+        return Answer::plain(Err(refusal), 0);
     }
     incr_in(dir, pool, clock, key, step, initial)
 }

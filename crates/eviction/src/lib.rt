@@ -12,8 +12,6 @@ ghost use Rattle.laws.specs.Marks.{Written};
 ghost use Rattle.eviction.specs.Marking.{Blank, Marked};
 ghost use Rattle.eviction.specs.Leaving.{Leaves};
 
-use rules::Fit;
-
 // How many entries the sweep removes.
 pub fn sweep_count(dir: &[u64], pool: &[u8], clock: u64) -> usize
     requires { sound dir.now pool.now ≡ true }
@@ -160,7 +158,7 @@ fn find_leavers(dir: &[u64], clock: u64, limit: usize) -> Leavers
 // Where a new entry goes, after how many rounds, how many entries those take, and whether one of them is live.
 #[derive(Clone, Copy)]
 pub struct Choice {
-    pub fit: Fit,
+    pub fit: Option<usize>,
     pub ran: usize,
     pub gone: usize,
     pub live: bool,

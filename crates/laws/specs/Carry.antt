@@ -1,10 +1,9 @@
 -- From memories to words and bytes: a call keeps what its work keeps.
-use Rattle.std.specs.Prelude.{◌≡◌, refl, true, false, not, ◌||◌, List, [], ◌⊎◌, ℕ, ◌+◌, ◌*◌, ◌^◌, ◌≤◌, ◌<◌, eqb, length, ℤ}
+use Rattle.std.specs.Prelude.{◌≡◌, refl, true, false, not, ◌||◌, List, [], ◌⊎◌, ℕ, ◌+◌, ◌*◌, ◌^◌, ◌≤◌, ◌<◌, eqb, length, ℤ, Err, Ok, Option}
 use Rattle.std.proofs.Common.{sym, ◌∙◌, true≢false, ⊎_elim, inl, inr, arith, eqb-true}
 use Rattle.std.proofs.lemmas.Bool.{not-false}
-use Rattle.rules.specs.declared.Outcome.TheVariants.{KindUnknown}
-use Rattle.rules.specs.declared.Check.{Check}
-use Rattle.rules.specs.declared.Check.TheVariants.{Passed, Refused}
+use Rattle.rules.specs.declared.Refusal.TheVariants.{KindUnknown}
+use Rattle.rules.specs.Outcome.{Check}
 use Rattle.rules.specs.declared.Operation.{Operation}
 use Rattle.rules.specs.declared.Initial.{Initial}
 use Rattle.rules.specs.Layout.{cells_of, encode, entries_of, Dir, Memory, memory_of}
@@ -36,10 +35,10 @@ carries_encode P n m e l h =
       inv = rw (entries_encode n m.entries) h;
     }
 
-pub carries_call : {Inv : Memory → Type 0} (P : ℕ) (c : Check) (work : Memory → Work) (dir pool : List ℕ) → ((m : Memory) → Inv m → length m.entries ≤ P) → Carries Inv P dir pool → (c ≡ Passed → Inv (memory_of dir pool) → Inv (work (memory_of dir pool)).memory) → Carries Inv P (call c work dir pool).dir (call c work dir pool).pool
+pub carries_call : {Inv : Memory → Type 0} (P : ℕ) (c : Check) (work : Memory → Work) (dir pool : List ℕ) → ((m : Memory) → Inv m → length m.entries ≤ P) → Carries Inv P dir pool → (c ≡ (Ok tt) → Inv (memory_of dir pool) → Inv (work (memory_of dir pool)).memory) → Carries Inv P (call c work dir pool).dir (call c work dir pool).pool
 unfolding call
-carries_call P (Refused o) work dir pool fewer h k = h
-carries_call P Passed work dir pool fewer h k =
+carries_call P (Err o) work dir pool fewer h k = h
+carries_call P (Ok _) work dir pool fewer h k =
     let m : Memory = (work (memory_of dir pool)).memory in
     carries_encode P (length dir) m h.dir_size (fewer m (k refl h.inv)) (k refl h.inv)
 
@@ -67,7 +66,7 @@ carries_audit {P} {dir} {pool} c = rw (sound_of pool c.dir_is c.dir_size c.inv.s
 
 -- ---- what the checks say of a store's item
 
-kind_passed : (kind : ℕ) → check_kind kind ≡ Passed → (kind ≡ 0 → ⊥) → (kind ≡ 1) ⊎ ((kind ≡ 3) ⊎ (kind ≡ 4))
+kind_passed : (kind : ℕ) → check_kind kind ≡ (Ok tt) → (kind ≡ 0 → ⊥) → (kind ≡ 1) ⊎ ((kind ≡ 3) ⊎ (kind ≡ 4))
 unfolding check_kind any
 kind_passed kind e z =
     let t : (eqb kind 0 || (eqb kind 1 || (eqb kind 3 || (eqb kind 4 || false)))) ≡ true = not-false (eqb kind 0 || (eqb kind 1 || (eqb kind 3 || (eqb kind 4 || false)))) (refused_not KindUnknown (not (eqb kind 0 || (eqb kind 1 || (eqb kind 3 || (eqb kind 4 || false))))) (sym e)) in
@@ -88,15 +87,15 @@ item_fine clock key kind number text lifetime flags a b f k =
 pub number_fine : (clock : ℕ) (key : List ℕ) (sum : ℤ) (lifetime : ℕ) → 1 ≤ length key → length key ≤ 65535 → FineItem (item_of clock key 3 sum [] lifetime 0)
 number_fine clock key sum lifetime a b = item_fine clock key 3 sum [] lifetime 0 a b (omega arith) (inr (inl refl))
 
-pub store_fine : (op : Operation) (dir pool : List ℕ) (clock : ℕ) (key : List ℕ) (kind : ℕ) (number : ℤ) (text : List ℕ) (lifetime flags : ℕ) → flags < 2 ^ 32 → store_checks op dir pool clock key kind lifetime ≡ Passed → ((item_of clock key kind number text lifetime flags).kind ≡ 0 → ⊥) → FineItem (item_of clock key kind number text lifetime flags)
+pub store_fine : (op : Operation) (dir pool : List ℕ) (clock : ℕ) (key : List ℕ) (kind : ℕ) (number : ℤ) (text : List ℕ) (lifetime flags : ℕ) → flags < 2 ^ 32 → store_checks op dir pool clock key kind lifetime ≡ (Ok tt) → ((item_of clock key kind number text lifetime flags).kind ≡ 0 → ⊥) → FineItem (item_of clock key kind number text lifetime flags)
 unfolding store_checks item_of
 store_fine op dir pool clock key kind number text lifetime flags f e z =
     let c0 : Check = key_checks dir pool clock key in
-    let e2 : (c0 then check_kind kind) ≡ Passed = first_passed (c0 then check_kind kind) (check_nil op kind) (first_passed (c0 then check_kind kind then check_nil op kind) (check_lifetime clock lifetime) e) in
+    let e2 : (c0 then check_kind kind) ≡ (Ok tt) = first_passed (c0 then check_kind kind) (check_nil op kind) (first_passed (c0 then check_kind kind then check_nil op kind) (check_lifetime clock lifetime) e) in
     let k : (1 ≤ length key) × (length key ≤ 65535) = key_lengths dir pool clock key (sym (first_passed c0 (check_kind kind) e2)) in
     item_fine clock key kind number text lifetime flags k.0 k.1 f (kind_passed kind (next_passed c0 (check_kind kind) e2) z)
 
-pub incr_fine : (dir pool : List ℕ) (clock : ℕ) (key : List ℕ) (initial : Initial) → incr_checks dir pool clock key initial ≡ Passed → (lifetime : ℕ) (sum : ℤ) → FineItem (item_of clock key 3 sum [] lifetime 0)
+pub incr_fine : (dir pool : List ℕ) (clock : ℕ) (key : List ℕ) (initial : Option Initial) → incr_checks dir pool clock key initial ≡ (Ok tt) → (lifetime : ℕ) (sum : ℤ) → FineItem (item_of clock key 3 sum [] lifetime 0)
 unfolding incr_checks
 incr_fine dir pool clock key initial e lifetime sum =
     let k : (1 ≤ length key) × (length key ≤ 65535) = key_lengths dir pool clock key (sym (first_passed (key_checks dir pool clock key) (check_initial clock initial) e)) in

@@ -1,22 +1,19 @@
 -- A refused call does nothing but take entries out; so it moves none of those that stay.
-use Rattle.std.specs.Prelude.{◌≡◌, Bool, not, cond, List, [], ℕ, eqb, length, get_or, ◌+ℤ◌}
+use Rattle.std.specs.Prelude.{◌≡◌, Bool, not, cond, List, [], ℕ, eqb, length, get_or, ◌+ℤ◌, Ok, Err, Option, Some, None}
 use Rattle.std.proofs.Math.Path.{refl}
 use Rattle.std.proofs.Common.{◌∙◌}
 use Rattle.std.proofs.Math.Bool.{true, false}
 use Rattle.std.proofs.Math.IntN.{ℤ}
 use Rattle.rules.specs.declared.Entry.{Entry}
-use Rattle.rules.specs.declared.Outcome.{Outcome}
-use Rattle.rules.specs.declared.Outcome.TheVariants.{Done, Number, Boolean, Text, Sum, NotNumber, SumTooLarge}
-use Rattle.rules.specs.declared.Check.{Check}
-use Rattle.rules.specs.declared.Check.TheVariants.{Passed, Refused}
+use Rattle.rules.specs.Outcome.{Outcome}
+use Rattle.rules.specs.declared.Reply.TheVariants.{Done, Number, Boolean, Text, Sum}
+use Rattle.rules.specs.declared.Refusal.TheVariants.{NotNumber, SumTooLarge}
+use Rattle.rules.specs.Outcome.{Check}
 use Rattle.rules.specs.declared.Found.{Found}
 use Rattle.rules.specs.declared.Found.TheVariants.{Live, Dead, Missing}
-use Rattle.rules.specs.declared.Fit.{Fit}
-use Rattle.rules.specs.declared.Fit.TheVariants.{Start, Nowhere}
 use Rattle.rules.specs.declared.Operation.{Operation}
 use Rattle.rules.specs.declared.Operation.TheVariants.{Set}
 use Rattle.rules.specs.declared.Initial.{Initial}
-use Rattle.rules.specs.declared.Initial.TheVariants.{Given, Absent}
 use Rattle.rules.specs.Layout.{cells_of, value_offset, number_at, Memory, memory_of, entry_in, remove}
 use Rattle.rules.specs.Time.{expiry_of}
 use Rattle.rules.specs.LookUp.{look_up}
@@ -42,7 +39,7 @@ shown_done : (pool : List ℕ) (e : Entry) → number_of (shown pool e) ≡ 0
 unfolding shown fields_of
 shown_done pool e = go (eqb e.kind 1) (eqb e.kind 3)
   where
-    go : (x y : Bool) → number_of (cond x (Boolean e.flags (not (eqb (get_or pool (value_offset e) 0) 0)) (value_offset e)) (cond y (Number e.flags (number_at pool e) (value_offset e)) (Text e.flags (value_offset e) e.vlen))) ≡ 0
+    go : (x y : Bool) → number_of (cond x (Ok (Boolean e.flags (not (eqb (get_or pool (value_offset e) 0) 0)) (value_offset e))) (cond y (Ok (Number e.flags (number_at pool e) (value_offset e))) (Ok (Text e.flags (value_offset e) e.vlen)))) ≡ 0
     go true y = refl
     go false true = refl
     go false false = refl
@@ -69,10 +66,10 @@ module _ (Inv : Memory → Type 0) (removes : (i : ℕ) (m : Memory) → Inv m �
   -- ---- a place, by what is told if there is one
 
   module _ (most clock : ℕ) (item : Item) (told : Outcome) (z : number_of told ≡ 0) (removed : ℕ) where
-    placed : (m : Memory) (f : Fit) (r : ℕ) → Inv m → Keeps (placed_by clock item told removed m (if_room (record { fit = f; ran = r })))
+    placed : (m : Memory) (f : Option ℕ) (r : ℕ) → Inv m → Keeps (placed_by clock item told removed m (if_room (record { fit = f; ran = r })))
     unfolding placed_by if_room is_placed evicted fit_outcome place_fit
-    placed m (Start s) r h n = absurd (n z)
-    placed m Nowhere r h n = oldest_by Inv removes (length (gone clock 0 (line m))) m h
+    placed m (Some s) r h n = absurd (n z)
+    placed m None r h n = oldest_by Inv removes (length (gone clock 0 (line m))) m h
 
     anew : (m : Memory) → Inv m → Keeps (place_anew most clock item told removed m)
     unfolding place_anew
@@ -98,39 +95,42 @@ module _ (Inv : Memory → Type 0) (removes : (i : ℕ) (m : Memory) → Inv m �
   unfolding store_found store_admitted fields_of
   store_found_is op clock item removed m f h = go (admits op f)
     where
-      nil_or : (b : Bool) → Keeps (cond b (delete_found removed m f) (store_item (most_rounds op) clock item Done removed m f))
+      nil_or : (b : Bool) → Keeps (cond b (delete_found removed m f) (store_item (most_rounds op) clock item (Ok Done) removed m f))
       nil_or true n = absurd (n (delete_done removed m f))
-      nil_or false n = stored (most_rounds op) clock item Done refl removed m f h n
+      nil_or false n = stored (most_rounds op) clock item (Ok Done) refl removed m f h n
 
       go : (c : Check) → Keeps (store_admitted op clock item removed m f c)
-      go (Refused o) n = h
-      go Passed n = nil_or (eqb item.kind 0) n
+      go (Err o) n = h
+      go (Ok _) n = nil_or (eqb item.kind 0) n
 
   -- ---- incr
 
   module _ (clock : ℕ) (key : List ℕ) (by : ℤ) (removed : ℕ) (m : Memory) (h : Inv m) where
-    incr_initial_is : (f : Found) (initial : Initial) → Keeps (incr_initial clock key by removed m f initial)
+    incr_initial_is : (f : Found) (initial : Option Initial) → Keeps (incr_initial clock key by removed m f initial)
     unfolding incr_initial incr_new fields_of
-    incr_initial_is f Absent n = h
-    incr_initial_is f (Given number lifetime) n = go (in_range (number +ℤ by)) n
+    incr_initial_is f None n = h
+    incr_initial_is f (Some begin) n = go (in_range (begin.number +ℤ by)) n
       where
         sum : ℤ
-        sum = number +ℤ by
+        sum = begin.number +ℤ by
 
-        go : (b : Bool) → Keeps (cond b (store_item (most_rounds Set) clock (item_of clock key 3 sum [] lifetime 0) (Sum sum) removed m f) (did SumTooLarge removed m))
-        go true n = stored (most_rounds Set) clock (item_of clock key 3 sum [] lifetime 0) (Sum sum) refl removed m f h n
+        lifetime : ℕ
+        lifetime = begin.lifetime
+
+        go : (b : Bool) → Keeps (cond b (store_item (most_rounds Set) clock (item_of clock key 3 sum [] lifetime 0) (Ok (Sum sum)) removed m f) (did (Err SumTooLarge) removed m))
+        go true n = stored (most_rounds Set) clock (item_of clock key 3 sum [] lifetime 0) (Ok (Sum sum)) refl removed m f h n
         go false n = h
 
-    incr_live_is : (i : ℕ) (number : Bool) (sum : ℤ) → Keeps (cond number (incr_live removed m i sum) (did NotNumber removed m))
+    incr_live_is : (i : ℕ) (number : Bool) (sum : ℤ) → Keeps (cond number (incr_live removed m i sum) (did (Err NotNumber) removed m))
     unfolding incr_live fields_of
     incr_live_is i false sum n = h
     incr_live_is i true sum n = go (in_range sum) n
       where
-        go : (b : Bool) → Keeps (cond b (did (Sum sum) removed (add_at i sum m)) (did SumTooLarge removed m))
+        go : (b : Bool) → Keeps (cond b (did (Ok (Sum sum)) removed (add_at i sum m)) (did (Err SumTooLarge) removed m))
         go true n = absurd (n refl)
         go false n = h
 
-    incr_found_is : (initial : Initial) (f : Found) → Keeps (incr_found clock key by initial removed m f)
+    incr_found_is : (initial : Option Initial) (f : Found) → Keeps (incr_found clock key by initial removed m f)
     unfolding incr_found
     incr_found_is initial (Live i) = incr_live_is i (eqb (entry_in m i).kind 3) (number_at m.pool (entry_in m i) +ℤ by)
     incr_found_is initial (Dead i) = incr_initial_is (Dead i) initial
@@ -152,8 +152,8 @@ module _ (Inv : Memory → Type 0) (removes : (i : ℕ) (m : Memory) → Inv m �
 
   called : (c : Check) (work : Memory → Work) (dir pool : List ℕ) → ((m : Memory) → Inv m → Keeps (work m)) → Inv (memory_of dir pool) → (number_of (call c work dir pool).answer.outcome ≡ 0 → ⊥) → Inv (memory_of (call c work dir pool).dir (call c work dir pool).pool)
   unfolding call memory_of
-  called (Refused o) work dir pool k h n = h
-  called Passed work dir pool k h n =
+  called (Err o) work dir pool k h n = h
+  called (Ok _) work dir pool k h n =
       rw (entries_encode (length dir) (work (memory_of dir pool)).memory.entries) (k (memory_of dir pool) h n)
 
   pub refused_keeps : (c : Call) (b : Buffers) → (number_of (answer_of c b).outcome ≡ 0 → ⊥) → Inv (memory_of b.dir b.pool) → Inv (memory_of (step c b).dir (step c b).pool)
@@ -203,8 +203,8 @@ unfolding fresh_call fresh_work call fields_of
 fresh_order dir pool n = go (check_lengths dir pool) n
   where
     go : (c : Check) → (number_of (call c fresh_work dir pool).answer.outcome ≡ 0 → ⊥) → InOrder (memory_of dir pool) (memory_of (call c fresh_work dir pool).dir (call c fresh_work dir pool).pool)
-    go (Refused o) n = same_order (memory_of dir pool)
-    go Passed n = absurd (n refl)
+    go (Err o) n = same_order (memory_of dir pool)
+    go (Ok _) n = absurd (n refl)
 
 -- a memory that is not sound
 left_alone : (c : Call) (b : Buffers) → NotFresh c → sound b.dir b.pool ≡ false → InOrder (memory_of b.dir b.pool) (memory_of (step c b).dir (step c b).pool)

@@ -1,5 +1,5 @@
 -- What the parts of the calls keep, every call keeps. Proved once, for any property of a memory.
-use Rattle.std.specs.Prelude.{◌≡◌, Bool, cond, ℤ, ◌+ℤ◌}
+use Rattle.std.specs.Prelude.{◌≡◌, Bool, cond, ℤ, ◌+ℤ◌, Ok, Err, Option, Some, None}
 use Rattle.std.proofs.Math.Path.{refl, ap}
 use Rattle.std.proofs.Common.{sym, ◌∙◌, arith, eqb-true}
 use Rattle.std.proofs.Math.Bool.{true, false}
@@ -9,18 +9,15 @@ use Rattle.std.proofs.Math.Dec.{eqb}
 use Rattle.std.proofs.Math.ListN.{length}
 use Rattle.std.proofs.lemmas.Bool.{eqb-false}
 use Rattle.rules.specs.declared.Entry.{Entry}
-use Rattle.rules.specs.declared.Outcome.{Outcome}
-use Rattle.rules.specs.declared.Outcome.TheVariants.{Done, Sum, SumTooLarge, NotNumber}
-use Rattle.rules.specs.declared.Check.{Check}
-use Rattle.rules.specs.declared.Check.TheVariants.{Passed, Refused}
+use Rattle.rules.specs.Outcome.{Outcome}
+use Rattle.rules.specs.declared.Reply.TheVariants.{Done, Sum}
+use Rattle.rules.specs.declared.Refusal.TheVariants.{SumTooLarge, NotNumber}
+use Rattle.rules.specs.Outcome.{Check}
 use Rattle.rules.specs.declared.Found.{Found}
 use Rattle.rules.specs.declared.Found.TheVariants.{Live, Dead, Missing}
-use Rattle.rules.specs.declared.Fit.{Fit}
-use Rattle.rules.specs.declared.Fit.TheVariants.{Start, Nowhere}
 use Rattle.rules.specs.declared.Operation.{Operation}
 use Rattle.rules.specs.declared.Operation.TheVariants.{Set}
 use Rattle.rules.specs.declared.Initial.{Initial}
-use Rattle.rules.specs.declared.Initial.TheVariants.{Given, Absent}
 use Rattle.rules.specs.Layout.{cells_of, Memory, entry_in, remove, remove_oldest, move_to_front, number_at}
 use Rattle.rules.specs.Time.{dead, with_expiry}
 use Rattle.rules.specs.LookUp.{look_up, Means}
@@ -94,10 +91,10 @@ module _ (P : ℕ) (Inv : Memory → Type 0) (Open : List ℕ → Memory → Typ
   -- ---- stores
 
   module _ (clock : ℕ) (item : Item) (told : Outcome) (removed : ℕ) (fi : FineItem item) where
-    placed_by_is : (most : ℕ) (m : Memory) (f : Fit) (r : ℕ) → RanBy clock (cells_of m.pool) (need_for item) most (line m) f r → Open item.key m → Inv m → Inv (placed_by clock item told removed m (if_room (record { fit = f; ran = r }))).memory
+    placed_by_is : (most : ℕ) (m : Memory) (f : Option ℕ) (r : ℕ) → RanBy clock (cells_of m.pool) (need_for item) most (line m) f r → Open item.key m → Inv m → Inv (placed_by clock item told removed m (if_room (record { fit = f; ran = r }))).memory
     unfolding placed_by if_room is_placed evicted place_fit
-    placed_by_is most m Nowhere r ran o h = oldest_kept (length (gone clock 0 (line m))) m h
-    placed_by_is most m (Start s) r ran o h =
+    placed_by_is most m None r ran o h = oldest_kept (length (gone clock 0 (line m))) m h
+    placed_by_is most m (Some s) r ran o h =
         let n : ℕ = length (gone clock r (line m)) in
         let rest : Memory = remove_oldest n m in
         k.places item s rest fi
@@ -129,12 +126,12 @@ module _ (P : ℕ) (Inv : Memory → Type 0) (Open : List ℕ → Memory → Typ
   module _ (op : Operation) (clock : ℕ) (item : Item) (fi : (item.kind ≡ 0 → ⊥) → FineItem item) where
     store_admitted_is : (removed : ℕ) (m : Memory) (f : Found) (c : Check) → Finds item.key m f → Inv m → Inv (store_admitted op clock item removed m f c).memory
     unfolding store_admitted
-    store_admitted_is removed m f (Refused o) w h = h
-    store_admitted_is removed m f Passed w h = go (eqb item.kind 0) refl
+    store_admitted_is removed m f (Err o) w h = h
+    store_admitted_is removed m f (Ok _) w h = go (eqb item.kind 0) refl
       where
-        go : (b : Bool) → eqb item.kind 0 ≡ b → Inv (cond b (delete_found removed m f) (store_item (most_rounds op) clock item Done removed m f)).memory
+        go : (b : Bool) → eqb item.kind 0 ≡ b → Inv (cond b (delete_found removed m f) (store_item (most_rounds op) clock item (Ok Done) removed m f)).memory
         go true e = delete_found_is removed m f h
-        go false e = store_item_is clock item Done removed (fi (eqb-false item.kind 0 e)) (most_rounds op) m f w h
+        go false e = store_item_is clock item (Ok Done) removed (fi (eqb-false item.kind 0 e)) (most_rounds op) m f w h
 
     pub store_kept : (m : Memory) → Inv m → Inv (store_work op clock item m).memory
     unfolding store_work after_sweep store_found
@@ -149,7 +146,7 @@ module _ (P : ℕ) (Inv : Memory → Type 0) (Open : List ℕ → Memory → Typ
   unfolding incr_live
   incr_live_is removed m i sum l t h = go (in_range sum)
     where
-      go : (b : Bool) → Inv (cond b (did (Sum sum) removed (add_at i sum m)) (did SumTooLarge removed m)).memory
+      go : (b : Bool) → Inv (cond b (did (Ok (Sum sum)) removed (add_at i sum m)) (did (Err SumTooLarge) removed m)).memory
       go true = k.adds i sum m l t h
       go false = h
 
@@ -158,26 +155,26 @@ module _ (P : ℕ) (Inv : Memory → Type 0) (Open : List ℕ → Memory → Typ
     unfolding incr_new item_of
     incr_new_is lifetime removed m f sum w h = go (in_range sum)
       where
-        go : (b : Bool) → Inv (cond b (store_item (most_rounds Set) clock (item_of clock key 3 sum [] lifetime 0) (Sum sum) removed m f) (did SumTooLarge removed m)).memory
-        go true = store_item_is clock (item_of clock key 3 sum [] lifetime 0) (Sum sum) removed (fi lifetime sum) (most_rounds Set) m f w h
+        go : (b : Bool) → Inv (cond b (store_item (most_rounds Set) clock (item_of clock key 3 sum [] lifetime 0) (Ok (Sum sum)) removed m f) (did (Err SumTooLarge) removed m)).memory
+        go true = store_item_is clock (item_of clock key 3 sum [] lifetime 0) (Ok (Sum sum)) removed (fi lifetime sum) (most_rounds Set) m f w h
         go false = h
 
-    incr_initial_is : (removed : ℕ) (m : Memory) (f : Found) (initial : Initial) → Finds key m f → Inv m → Inv (incr_initial clock key step removed m f initial).memory
+    incr_initial_is : (removed : ℕ) (m : Memory) (f : Found) (initial : Option Initial) → Finds key m f → Inv m → Inv (incr_initial clock key step removed m f initial).memory
     unfolding incr_initial
-    incr_initial_is removed m f (Given number lifetime) w h = incr_new_is lifetime removed m f (number +ℤ step) w h
-    incr_initial_is removed m f Absent w h = h
+    incr_initial_is removed m f (Some begin) w h = incr_new_is begin.lifetime removed m f (begin.number +ℤ step) w h
+    incr_initial_is removed m f None w h = h
 
-    incr_found_is : (initial : Initial) (removed : ℕ) (m : Memory) (f : Found) → Finds key m f → Inv m → Inv (incr_found clock key step initial removed m f).memory
+    incr_found_is : (initial : Option Initial) (removed : ℕ) (m : Memory) (f : Found) → Finds key m f → Inv m → Inv (incr_found clock key step initial removed m f).memory
     unfolding incr_found
     incr_found_is initial removed m (Dead i) w h = incr_initial_is removed m (Dead i) initial w h
     incr_found_is initial removed m Missing w h = incr_initial_is removed m Missing initial w h
     incr_found_is initial removed m (Live i) w h = go (eqb (entry_in m i).kind 3) refl
       where
-        go : (b : Bool) → eqb (entry_in m i).kind 3 ≡ b → Inv (cond b (incr_live removed m i (number_at m.pool (entry_in m i) +ℤ step)) (did NotNumber removed m)).memory
+        go : (b : Bool) → eqb (entry_in m i).kind 3 ≡ b → Inv (cond b (incr_live removed m i (number_at m.pool (entry_in m i) +ℤ step)) (did (Err NotNumber) removed m)).memory
         go true e = incr_live_is removed m i (number_at m.pool (entry_in m i) +ℤ step) w.there (eqb-true (entry_in m i).kind 3 e) h
         go false e = h
 
-    pub incr_kept : (initial : Initial) (m : Memory) → Inv m → Inv (incr_work clock key step initial m).memory
+    pub incr_kept : (initial : Option Initial) (m : Memory) → Inv m → Inv (incr_work clock key step initial m).memory
     unfolding incr_work after_sweep
     incr_kept initial m h =
         let n : Memory = sweep clock m in

@@ -1,9 +1,8 @@
 -- A memory that is not sound is left as it is by every call but make fresh; and no call changes a length.
-use Rattle.std.specs.Prelude.{◌≡◌, refl, Bool, true, false, not, cond, List, [], ℕ, length}
+use Rattle.std.specs.Prelude.{◌≡◌, refl, Bool, true, false, not, cond, List, [], ℕ, length, Err, Ok}
 use Rattle.std.proofs.Common.{arith}
 use Rattle.std.proofs.lemmas.List.{length-replicate}
-use Rattle.rules.specs.declared.Outcome.TheVariants.{NotSound}
-use Rattle.rules.specs.declared.Check.TheVariants.{Passed, Refused}
+use Rattle.rules.specs.declared.Refusal.TheVariants.{NotSound}
 use Rattle.rules.specs.Layout.{cells_of, memory_of}
 use Rattle.laws.specs.LayoutLaws.{length_encode}
 use Rattle.rules.specs.Soundness.{sound, right_lengths}
@@ -56,7 +55,7 @@ fresh_lengths : (dir pool : List ℕ) → (length (fresh_call dir pool).dir ≡ 
 unfolding fresh_call fresh_work call check_lengths refuse memory_of
 fresh_lengths dir pool = go (right_lengths dir pool) refl
   where
-    go : (x : Bool) → right_lengths dir pool ≡ x → (length (call (cond (not x) (Refused NotSound) Passed) fresh_work dir pool).dir ≡ length dir) × (length (call (cond (not x) (Refused NotSound) Passed) fresh_work dir pool).pool ≡ length pool)
+    go : (x : Bool) → right_lengths dir pool ≡ x → (length (call (cond (not x) (Err NotSound) (Ok tt)) fresh_work dir pool).dir ≡ length dir) × (length (call (cond (not x) (Err NotSound) (Ok tt)) fresh_work dir pool).pool ≡ length pool)
     go true t = (length_encode (length dir) [] (omega (arith, lengths_are dir pool t)), length-replicate (length pool) 0)
     go false t = (refl, refl)
 

@@ -1,9 +1,8 @@
 -- What each call keeps, and so sequences of calls.
-use Rattle.std.specs.Prelude.{◌≡◌, true, ℕ, ◌^◌, ◌≤◌, ◌<◌, length, replicate, ℤ}
+use Rattle.std.specs.Prelude.{◌≡◌, true, ℕ, ◌^◌, ◌≤◌, ◌<◌, length, replicate, ℤ, Ok, Option}
 use Rattle.std.proofs.Common.{◌∙◌, arith}
 use mathlib.Core.List.{List, [], ◌∷◌}
 use Rattle.std.proofs.lemmas.List.{length-replicate}
-use Rattle.rules.specs.declared.Check.TheVariants.{Passed}
 use Rattle.rules.specs.declared.Operation.{Operation}
 use Rattle.rules.specs.declared.Initial.{Initial}
 use Rattle.rules.specs.Layout.{cells_of, Memory, memory_of}
@@ -87,7 +86,7 @@ audit_steps cs b t =
 
 -- ---- make fresh
 
-pub fresh_passed : (dir pool : List ℕ) → right_lengths dir pool ≡ true → check_lengths dir pool ≡ Passed
+pub fresh_passed : (dir pool : List ℕ) → right_lengths dir pool ≡ true → check_lengths dir pool ≡ (Ok tt)
 unfolding check_lengths refuse
 fresh_passed dir pool t = rw t
 
@@ -129,7 +128,7 @@ module _ (dir pool : List ℕ) (t : sound dir pool ≡ true) where
   unfolding step result_of
   delete_sound clock key = sound_step (delete clock key) given t
 
-  pub incr_sound : (clock : ℕ) (key : List ℕ) (by : ℤ) (initial : Initial) → sound (incr_call dir pool clock key by initial).dir (incr_call dir pool clock key by initial).pool ≡ true
+  pub incr_sound : (clock : ℕ) (key : List ℕ) (by : ℤ) (initial : Option Initial) → sound (incr_call dir pool clock key by initial).dir (incr_call dir pool clock key by initial).pool ≡ true
   unfolding step result_of
   incr_sound clock key by initial = sound_step (incr clock key by initial) given t
 

@@ -1,5 +1,5 @@
 -- What holds of get_keys as plain numbers and of get_keys into rows.
-use Rattle.std.specs.Prelude.{◌≡◌, Bool, false, not, cond, eqb, take}
+use Rattle.std.specs.Prelude.{◌≡◌, Bool, false, cond, take, Ok, Err}
 use Rattle.std.proofs.Math.Path.{refl, sym, ap}
 use Rattle.std.proofs.Common.{◌∙◌, arith, length-append}
 use Rattle.std.proofs.Math.Bool.{true}
@@ -9,17 +9,17 @@ use Rattle.std.proofs.Math.ListN.{length, drop}
 use Rattle.std.proofs.lemmas.List.{length-map}
 use Rattle.std.proofs.Math.Seq.{length-take-le}
 use Rattle.rules.specs.declared.Answer.{Answer}
-use Rattle.rules.specs.declared.Check.{Check}
-use Rattle.rules.specs.declared.Check.TheVariants.{Passed, Refused}
+use Rattle.rules.specs.Outcome.{Check}
 use Rattle.rules.specs.declared.Entry.{Entry}
 use Rattle.rules.specs.declared.Row.{Row}
-use Rattle.rules.specs.declared.Outcome.{Outcome}
-use Rattle.rules.specs.declared.Outcome.TheVariants.{Count, NotSound, ClockZero}
+use Rattle.rules.specs.Outcome.{Outcome}
+use Rattle.rules.specs.declared.Reply.{Reply}
+use Rattle.rules.specs.declared.Reply.TheVariants.{Count}
 use Rattle.rules.specs.Layout.{Memory, memory_of}
 use Rattle.rules.specs.Time.{dead}
 use Rattle.rules.specs.Soundness.{sound}
 use Rattle.rules.specs.Answer.{plain}
-use Rattle.rules.specs.Checks.{◌then◌, refuse, check_sound, check_clock, clock_checks}
+use Rattle.rules.specs.Checks.{clock_checks}
 use Rattle.rules.specs.Calls.{up_to, row_of, live_of, key_count, key_rows, listing, listed, keys_of, get_keys_call, row_words, FlatListing, flat_listing, listed_flat, flat_keys_of, get_keys_flat_call}
 use Rattle.laws.specs.Buffers.{given_memory}
 use Rattle.laws.specs.SoundMemory.{few}
@@ -29,32 +29,30 @@ use Rattle.listing.specs.Rows.{length_rows}
 use Rattle.listing.specs.Filling.{Fits, filled}
 use Rattle.listing.proofs.FillingLaws.{filled_is}
 use Rattle.listing.specs.Told.{Tells, Told}
+use Rattle.rules.specs.declared.Refusal.{Refusal}
 
-pub tells_count : {o : Outcome} (n : ℕ) → o ≡ Count n → Tells o n
+pub tells_count : {o : Outcome} (n : ℕ) → o ≡ Ok (Count n) → Tells o n
 tells_count n e = record { count = λ m f. cc; none = λ h. absurd (h n e) }
 
-pub tells_none : {o : Outcome} → ((m : ℕ) → o ≡ Count m → ⊥) → Tells o 0
+pub tells_none : {o : Outcome} → ((m : ℕ) → o ≡ Ok (Count m) → ⊥) → Tells o 0
 tells_none h = record { count = λ m f. absurd (h m f); none = λ _. refl }
+
+-- another reply than a count tells of none
+pub tells_other : {r : Reply} → ((m : ℕ) → r ≡ Count m → ⊥) → Tells (Ok r) 0
+tells_other h = tells_none (λ m f. h m cc)
 
 -- ---- a refusal tells of no rows
 
-no_count : (b c : Bool) (o : Outcome) (m : ℕ) → (refuse NotSound b then refuse ClockZero c) ≡ Refused o → o ≡ Count m → ⊥
-unfolding ◌then◌ refuse
-no_count true c o m e f = let z : ◌≡◌ {A = ℕ} 0 1 = cc in omega arith
-no_count false true o m e f = let z : ◌≡◌ {A = ℕ} 0 1 = cc in omega arith
-no_count false false o m e f = let z : ◌≡◌ {A = ℕ} 0 1 = cc in omega arith
+pub no_count : (o : Refusal) (m : ℕ) → Err o ≡ Ok (Count m) → ⊥
+no_count o m f = let z : ◌≡◌ {A = ℕ} 0 1 = cc in omega arith
 
 module _ (dir pool : List ℕ) (clock : ℕ) where
-  refused_none : (o : Outcome) → clock_checks dir pool clock ≡ Refused o → (m : ℕ) → o ≡ Count m → ⊥
-  unfolding clock_checks check_sound check_clock
-  refused_none o e m f = no_count (not (sound dir pool)) (eqb clock 0) o m e f
-
   module _ (maximum room : ℕ) (a : Answer) (t : List ℕ) where
     -- a refusal: no row is filled
-    told_refused : (o : Outcome) → clock_checks dir pool clock ≡ Refused o → a ≡ plain o 0 → Told dir pool clock maximum room a t
+    told_refused : (o : Refusal) → clock_checks dir pool clock ≡ Err o → a ≡ plain (Err o) 0 → Told dir pool clock maximum room a t
     unfolding filled get_keys_call keys_of
     told_refused o e p =
-        let zero-rows : (n : ℕ) → Tells a.outcome n → n ≡ 0 = λ n w. w.none (λ m f. refused_none o e m (sym (ap (λ (x : Answer). x.outcome) p) ∙ f)) in
+        let zero-rows : (n : ℕ) → Tells a.outcome n → n ≡ 0 = λ n w. w.none (λ m f. no_count o m (sym (ap (λ (x : Answer). x.outcome) p) ∙ f)) in
         record {
           fits = λ n w. record { few = omega (arith, zero-rows n w); there = omega (arith, zero-rows n w) };
           whole = λ n w rows l. rw (zero-rows n w, e, p);
@@ -111,7 +109,7 @@ module _ (dir pool : List ℕ) (clock maximum room : ℕ) (s : sound dir pool �
           there = omega (arith, ap length in_front, length-append (row_words (key_rows clock n m)) behind, length_rows (key_rows clock n m), rows_length);
         }
 
-    told_listed : {a : Answer} → a ≡ plain (Count n) 0 → (rows : List Row) → length rows ≡ room → listing a (filled rows t n) ≡ listed clock maximum rows m
+    told_listed : {a : Answer} → a ≡ plain (Ok (Count n)) 0 → (rows : List Row) → length rows ≡ room → listing a (filled rows t n) ≡ listed clock maximum rows m
     unfolding listed
     told_listed {a} p rows l =
         let f : filled rows t n ≡ key_rows clock n m ++ drop n rows = filled_is rows (key_rows clock n m) behind t n in_front rows_length (omega (arith, count_fits)) in
@@ -124,14 +122,14 @@ module _ (dir pool : List ℕ) (clock maximum room : ℕ) (a : Answer) (t₀ u t
   abbrev into : Check → FlatListing
   into c = flat_keys_of c clock maximum (take w t₀) (memory_of dir pool)
 
-  told_passed : clock_checks dir pool clock ≡ Passed → flat_listing a u ≡ into Passed → Told dir pool clock maximum room a t
+  told_passed : clock_checks dir pool clock ≡ (Ok tt) → flat_listing a u ≡ into (Ok tt) → Told dir pool clock maximum room a t
   unfolding flat_keys_of listed_flat get_keys_call keys_of
   told_passed c f =
       let s : sound dir pool ≡ true = clock_passed dir pool clock (sym c) in
       let l : length (take w t₀) / 3 ≡ min room 1024 = omega (arith, length-take-le w t₀ (omega arith)) in
       let k : ℕ = key_count clock maximum (length (take w t₀) / 3) (memory_of dir pool) in
       let e : k ≡ key_count clock maximum room (memory_of dir pool) = ap (λ (x : ℕ). key_count clock maximum x (memory_of dir pool)) l ∙ same_count dir pool clock maximum room s in
-      let p : a ≡ plain (Count k) 0 = ap (λ (x : FlatListing). x.answer) f in
+      let p : a ≡ plain (Ok (Count k)) 0 = ap (λ (x : FlatListing). x.answer) f in
       let q : u ≡ row_words (key_rows clock k (memory_of dir pool)) ++ drop (3 * k) (take w t₀) = ap (λ (x : FlatListing). x.table) f in
       let is : (n : ℕ) → Tells a.outcome n → n ≡ k = λ n y. y.count k (ap (λ (x : Answer). x.outcome) p) in
       record {
@@ -144,5 +142,5 @@ module _ (dir pool : List ℕ) (clock maximum room : ℕ) (a : Answer) (t₀ u t
   keys_told f = go (clock_checks dir pool clock) refl f
     where
       go : (c : Check) → clock_checks dir pool clock ≡ c → flat_listing a u ≡ into c → Told dir pool clock maximum room a t
-      go Passed e g = told_passed e g
-      go (Refused o) e g = told_refused dir pool clock maximum room a t o e (ap (λ (x : FlatListing). x.answer) g)
+      go (Ok _) e g = told_passed e g
+      go (Err o) e g = told_refused dir pool clock maximum room a t o e (ap (λ (x : FlatListing). x.answer) g)

@@ -9,7 +9,7 @@ ghost use Rattle.listing.specs.Rows.{Listed};
 ghost use Rattle.listing.specs.Filling.{row_at, Fits, filled};
 ghost use Rattle.listing.specs.Told.{Tells, Told};
 
-use rules::{Answer, Check, Entry, Outcome, Row};
+use rules::{Answer, Entry, Reply, Row};
 
 // The three numbers of an entry's row, from p on.
 fn write_row(table: &mut [u64], p: usize, e: Entry)
@@ -57,7 +57,7 @@ pub fn get_keys_flat_in(
 {
     let most = values::up_to(maximum, table.len() / 3);
     let k = write_rows(dir, clock, most, table);
-    Answer::plain(Outcome::Count(k as u64), 0)
+    Answer::plain(Ok(Reply::Count(k as u64)), 0)
 }
 
 // get_keys into a table of plain numbers, three a row. It answers how many rows: the least of the maximum (0 for none), the rows that fit and the live entries. Later rows stay, and on a refusal all do.
@@ -71,8 +71,8 @@ pub fn get_keys_flat(
     ensures { flat_listing result table.new ≡ get_keys_flat_call dir.now pool.now clock maximum table.old }
 {
     let check = checks::of_clock(dir, pool, clock);
-    if let Check::Refused(o) = check {
-        return Answer::plain(o, 0);
+    if let Err(refusal) = check {
+        return Answer::plain(Err(refusal), 0);
     }
     get_keys_flat_in(dir, pool, clock, maximum, table)
 }
@@ -128,15 +128,24 @@ fn keys_for(
     get_keys_flat(dir, pool, clock, maximum, &mut table[..end])
 }
 
+// The rows that a reply tells of.
+fn rows_counted(reply: Reply) -> usize
+    ensures { Tells (Ok reply) result }
+{
+    let Reply::Count(n) = reply else {
+        return 0;
+    };
+    n as usize
+}
+
 // The rows that an answer tells of: none with a refusal.
 fn rows_told(answer: Answer) -> usize
     ensures { Tells answer.outcome result }
 {
-    let outcome = answer.outcome;
-    let Outcome::Count(n) = outcome else {
-        return 0;
-    };
-    n as usize
+    match answer.outcome {
+        Ok(reply) => rows_counted(reply),
+        Err(_) => 0,
+    }
 }
 
 // get_keys into a lent table of rows, a row for each live entry, most recent first.

@@ -1,15 +1,13 @@
 -- First fit in one pass: no start that was passed has room, and the run at hand is within the limit.
 use Rattle.std.proofs.Math.Path.{◌≡◌, refl, sym}
 use Rattle.std.proofs.Common.{ap, ◌∙◌, below_more}
-use Rattle.std.specs.Prelude.{Bool, ◌&&◌, List, leb, length}
+use Rattle.std.specs.Prelude.{Bool, ◌&&◌, List, leb, length, Option, Some, None}
 use Rattle.std.proofs.Math.Bool.{true, false, cond, and-false}
 use Prim.Native.Nat.{ℕ, zero, suc, ◌+◌, ◌-◌, ◌≤◌, ◌<◌}
 use native.Mathlib.Omega.{arith}
 use Rattle.std.proofs.Math.Decide.{dec_lt, ℕ_discrete}
 use Rattle.std.proofs.Math.ListN.{get_or}
 use borrow.Author.Tests.{le-leb, lt-leb}
-use Rattle.rules.specs.declared.Fit.{Fit}
-use Rattle.rules.specs.declared.Fit.TheVariants.{Start, Nowhere}
 use Rattle.rules.specs.Place.{looks_for}
 use Rattle.laws.specs.Booleans.{no_bool}
 use Rattle.laws.specs.Cost.{within, fit_within}
@@ -49,11 +47,11 @@ module _ (marks : ℕ → ℕ) (limit : ℕ) where
       rw (h s (omega arith) (omega arith), e, z) (fit_past n k (suc s) j (λ t a b. h t (omega arith) (omega arith)))
 
 -- the first fit in a list of marks
-abbrev pub fit_under : List ℕ → ℕ → ℕ → Fit
+abbrev pub fit_under : List ℕ → ℕ → ℕ → Option ℕ
 fit_under marks limit n = fit_within (λ (c : ℕ). get_or marks c 0) limit n (suc (length marks) - n) 0
 
 -- what the search answers: the first fit, and how many looks at a cell it took
-pub record FirstFit (marks : List ℕ) (limit n : ℕ) (fit : Fit) (looks : ℕ) : Type 0 where
+pub record FirstFit (marks : List ℕ) (limit n : ℕ) (fit : Option ℕ) (looks : ℕ) : Type 0 where
   pub fit_is : fit ≡ fit_under marks limit n
   pub looks_are : looks ≡ looks_for (length marks) n fit
 
@@ -90,7 +88,7 @@ module _ {marks : List ℕ} {limit n : ℕ} where
             ∙ ap (λ (m : ℕ). fit_within (λ (c : ℕ). get_or marks c 0) limit n m (start + (run + 1))) e;
       }
 
-  found : {start run : ℕ} → Looking marks limit n start → Running marks limit n start run → run ≡ n → Start start ≡ fit_under marks limit n
+  found : {start run : ℕ} → Looking marks limit n start → Running marks limit n start run → run ≡ n → Some start ≡ fit_under marks limit n
   unfolding fit_within
   found {start} {run} k r p =
       let e : suc (length marks) - n - start ≡ suc (length marks - n - start) = omega (arith, r.inside) in
@@ -98,16 +96,16 @@ module _ {marks : List ℕ} {limit n : ℕ} where
       let w : within (λ (c : ℕ). get_or marks c 0) limit n start ≡ true = within_all (λ (c : ℕ). get_or marks c 0) limit n start low in
       sym (k.rest ∙ rw (e, w))
 
-  nowhere : {start run : ℕ} → Looking marks limit n start → Running marks limit n start run → (run ≡ n → ⊥) → start + run ≡ length marks → Nowhere ≡ fit_under marks limit n
+  nowhere : {start run : ℕ} → Looking marks limit n start → Running marks limit n start run → (run ≡ n → ⊥) → start + run ≡ length marks → None ≡ fit_under marks limit n
   unfolding fit_within
   nowhere {start} {run} k r p q = let e : suc (length marks) - n - start ≡ 0 = omega (arith, r.short) in sym (k.rest ∙ rw e)
 
   -- a look at each cell up to the run's end
-  pub looking_found : {start run looks : ℕ} → Looking marks limit n start → Running marks limit n start run → run ≡ n → looks ≡ start + run → FirstFit marks limit n (Start start) looks
+  pub looking_found : {start run looks : ℕ} → Looking marks limit n start → Running marks limit n start run → run ≡ n → looks ≡ start + run → FirstFit marks limit n (Some start) looks
   unfolding looks_for
   looking_found k r p l = record { fit_is = found k r p; looks_are = omega arith }
 
-  pub looking_end : {start run looks : ℕ} → Looking marks limit n start → Running marks limit n start run → (run ≡ n → ⊥) → start + run ≡ length marks → looks ≡ start + run → FirstFit marks limit n Nowhere looks
+  pub looking_end : {start run looks : ℕ} → Looking marks limit n start → Running marks limit n start run → (run ≡ n → ⊥) → start + run ≡ length marks → looks ≡ start + run → FirstFit marks limit n None looks
   unfolding looks_for
   looking_end k r p q l = record { fit_is = nowhere k r p q; looks_are = omega arith }
 
@@ -127,26 +125,26 @@ pub record Closed (marks : List ℕ) (bound n s : ℕ) : Type 0 where
 
 -- a fit is open
 module _ (marks : ℕ → ℕ) (limit n : ℕ) where
-  fit_some : (k s t : ℕ) → s ≤ t → t < s + k → within marks limit n t ≡ true → fit_within marks limit n k s ≡ Nowhere → ⊥
+  fit_some : (k s t : ℕ) → s ≤ t → t < s + k → within marks limit n t ≡ true → fit_within marks limit n k s ≡ None → ⊥
   unfolding fit_within
   fit_some zero s t h l w e = omega arith
   fit_some (suc k) s t h l w e = go (within marks limit n s) refl (ℕ_discrete s t) (λ q. fit_some k (suc s) t (omega arith) (omega arith) w) e
     where
-      go : (b : Bool) → within marks limit n s ≡ b → Dec (s ≡ t) → ((s ≡ t → ⊥) → fit_within marks limit n k (suc s) ≡ Nowhere → ⊥) → cond b (Start s) (fit_within marks limit n k (suc s)) ≡ Nowhere → ⊥
+      go : (b : Bool) → within marks limit n s ≡ b → Dec (s ≡ t) → ((s ≡ t → ⊥) → fit_within marks limit n k (suc s) ≡ None → ⊥) → cond b (Some s) (fit_within marks limit n k (suc s)) ≡ None → ⊥
       go true x d ih y = let z : ◌≡◌ {A = ℕ} 0 1 = cc in omega arith
       go false x (yes q) ih y = no_bool (sym x ∙ rw q w)
       go false x (no q) ih y = ih q y
 
-  fit_none : (k s : ℕ) → ((t : ℕ) → s ≤ t → t < s + k → within marks limit n t ≡ false) → fit_within marks limit n k s ≡ Nowhere
+  fit_none : (k s : ℕ) → ((t : ℕ) → s ≤ t → t < s + k → within marks limit n t ≡ false) → fit_within marks limit n k s ≡ None
   unfolding fit_within
   fit_none zero s h = refl
   fit_none (suc k) s h = rw (h s (omega arith) (omega arith)) (fit_none k (suc s) (λ t a b. h t (omega arith) (omega arith)))
 
 -- under a limit that has an open place there is a fit; and there is none where each place is closed to all marks below the bound
-pub open_fits : {marks : List ℕ} {limit n s : ℕ} → Open marks limit n s → fit_under marks limit n ≡ Nowhere → ⊥
+pub open_fits : {marks : List ℕ} {limit n s : ℕ} → Open marks limit n s → fit_under marks limit n ≡ None → ⊥
 open_fits {marks} {limit} {n} {s} o = fit_some (λ (c : ℕ). get_or marks c 0) limit n (suc (length marks) - n) 0 s (omega arith) (omega (arith, o.inside)) (within_all (λ (c : ℕ). get_or marks c 0) limit n s o.low)
 
-pub closed_none : (marks : List ℕ) (limit bound n : ℕ) → limit < bound → ((s : ℕ) → s + n ≤ length marks → Closed marks bound n s) → fit_under marks limit n ≡ Nowhere
+pub closed_none : (marks : List ℕ) (limit bound n : ℕ) → limit < bound → ((s : ℕ) → s + n ≤ length marks → Closed marks bound n s) → fit_under marks limit n ≡ None
 closed_none marks limit bound n l c =
     fit_none (λ (x : ℕ). get_or marks x 0) limit n (suc (length marks) - n) 0
     (λ t a b. let q : Closed marks bound n t = c t (omega arith) in within_not (λ (x : ℕ). get_or marks x 0) limit n t q.cell q.first q.last (omega (arith, q.high)))

@@ -1,24 +1,22 @@
 -- The least limit that has a fit, in one pass: each place that was passed has a cell at or above the bound, and the bound is the cost of a place that was met.
-use Rattle.std.specs.Prelude.{◌≡◌, refl, List, ℕ, ◌+◌, ◌≤◌, ◌<◌, length, get_or}
+use Rattle.std.specs.Prelude.{◌≡◌, refl, List, ℕ, ◌+◌, ◌≤◌, ◌<◌, length, get_or, Option, Some, None}
 use Rattle.std.proofs.Common.{sym, ◌∙◌, arith, below_more}
 use Rattle.std.proofs.Math.Decide.{dec_lt}
-use Rattle.rules.specs.declared.Fit.{Fit}
-use Rattle.rules.specs.declared.Fit.TheVariants.{Start, Nowhere}
 use Rattle.placement.specs.Fitting.{fit_under, Open, Closed, open_fits, closed_none}
 
 -- the least limit that has a fit, or one more than `most`
 pub record LeastLimit (marks : List ℕ) (n most limit : ℕ) : Type 0 where
   pub few : limit ≤ most + 1
-  pub none_before : (j : ℕ) → j < limit → fit_under marks j n ≡ Nowhere
-  pub some_here : limit ≤ most → fit_under marks limit n ≡ Nowhere → ⊥
+  pub none_before : (j : ℕ) → j < limit → fit_under marks j n ≡ None
+  pub some_here : limit ≤ most → fit_under marks limit n ≡ None → ⊥
 
 -- a place under that limit; without one under any, 0 is the limit
-pub record LeastPlace (marks : List ℕ) (n most : ℕ) (fit : Fit) (limit : ℕ) : Type 0 where
+pub record LeastPlace (marks : List ℕ) (n most : ℕ) (fit : Option ℕ) (limit : ℕ) : Type 0 where
   pub few : limit ≤ most
   pub here : fit ≡ fit_under marks limit n
-  pub none_before : (j : ℕ) → j < limit → fit_under marks j n ≡ Nowhere
-  pub no_rounds : fit ≡ Nowhere → limit ≡ 0
-  pub none : fit ≡ Nowhere → (j : ℕ) → j ≤ most → fit_under marks j n ≡ Nowhere
+  pub none_before : (j : ℕ) → j < limit → fit_under marks j n ≡ None
+  pub no_rounds : fit ≡ None → limit ≡ 0
+  pub none : fit ≡ None → (j : ℕ) → j ≤ most → fit_under marks j n ≡ None
 
 -- ---- the pass
 
@@ -27,7 +25,7 @@ pub record Passed (marks : List ℕ) (n most bound start : ℕ) : Type 0 where
   pub inside : start ≤ length marks
   pub few : bound ≤ most + 1
   pub closed : (s : ℕ) → s < start → s + n ≤ length marks → Closed marks bound n s
-  pub met : bound ≤ most → fit_under marks bound n ≡ Nowhere → ⊥
+  pub met : bound ≤ most → fit_under marks bound n ≡ None → ⊥
 
 -- the run from `start` on is below the bound, and its highest mark, `top`, stands at `at`
 pub record Climbed (marks : List ℕ) (n bound start run top at : ℕ) : Type 0 where
@@ -89,7 +87,7 @@ module _ {marks : List ℕ} {n bound start run top at : ℕ} (c : Climbed marks 
         go pk s m h (no y) = record { cell = at; first = omega arith; last = omega (arith, pk.3); high = omega (arith, pk.0) }
 
     -- a place of one round, where nothing is free
-    pub passed_cheapest : 0 < n → run ≡ n → top ≤ 1 → fit_under marks 0 n ≡ Nowhere → LeastLimit marks n most top
+    pub passed_cheapest : 0 < n → run ≡ n → top ≤ 1 → fit_under marks 0 n ≡ None → LeastLimit marks n most top
     passed_cheapest z e t none =
         let there : Passed marks n most top (at + 1) = passed_place z e in
         record {
@@ -119,27 +117,27 @@ module _ {marks : List ℕ} {n bound start run top at : ℕ} (c : Climbed marks 
 
 module _ {marks : List ℕ} {n most : ℕ} where
   -- under some limit
-  place_under : {s limit : ℕ} → limit ≤ most → Start s ≡ fit_under marks limit n → ((j : ℕ) → j < limit → fit_under marks j n ≡ Nowhere) → LeastPlace marks n most (Start s) limit
+  place_under : {s limit : ℕ} → limit ≤ most → Some s ≡ fit_under marks limit n → ((j : ℕ) → j < limit → fit_under marks j n ≡ None) → LeastPlace marks n most (Some s) limit
   place_under h e none_before = record { few = h; here = e; none_before = none_before; no_rounds = λ q. absurd (start_somewhere q); none = λ q. absurd (start_somewhere q) }
     where
-      start_somewhere : {s : ℕ} → Start s ≡ Nowhere → ⊥
+      start_somewhere : {s : ℕ} → Some s ≡ None → ⊥
       start_somewhere q = let z : ◌≡◌ {A = ℕ} 0 1 = cc in omega arith
 
   -- under 0
-  pub place_free : {s : ℕ} {f : Fit} → f ≡ fit_under marks 0 n → f ≡ Start s → LeastPlace marks n most (Start s) 0
+  pub place_free : {s : ℕ} {f : Option ℕ} → f ≡ fit_under marks 0 n → f ≡ Some s → LeastPlace marks n most (Some s) 0
   place_free e p = place_under (omega arith) (sym p ∙ e) (λ j l. absurd (omega arith))
 
   -- under the least limit
-  pub place_least : {limit : ℕ} (f : Fit) → LeastLimit marks n most limit → limit ≤ most → f ≡ fit_under marks limit n → LeastPlace marks n most f limit
-  place_least (Start s) l h e = place_under h e l.none_before
-  place_least Nowhere l h e = absurd (l.some_here h (sym e))
+  pub place_least : {limit : ℕ} (f : Option ℕ) → LeastLimit marks n most limit → limit ≤ most → f ≡ fit_under marks limit n → LeastPlace marks n most f limit
+  place_least (Some s) l h e = place_under h e l.none_before
+  place_least None l h e = absurd (l.some_here h (sym e))
 
   -- under none
-  place_nowhere : ((j : ℕ) → j ≤ most → fit_under marks j n ≡ Nowhere) → LeastPlace marks n most Nowhere 0
+  place_nowhere : ((j : ℕ) → j ≤ most → fit_under marks j n ≡ None) → LeastPlace marks n most None 0
   place_nowhere h = record { few = omega arith; here = sym (h 0 (omega arith)); none_before = λ j l. absurd (omega arith); no_rounds = λ q. refl; none = λ q. h }
 
-  pub place_safe : most ≡ 0 → Nowhere ≡ fit_under marks 0 n → LeastPlace marks n most Nowhere 0
+  pub place_safe : most ≡ 0 → None ≡ fit_under marks 0 n → LeastPlace marks n most None 0
   place_safe z e = place_nowhere (λ j l. let w : j ≡ 0 = omega arith in rw w (sym e))
 
-  pub place_none : {limit : ℕ} → LeastLimit marks n most limit → most < limit → LeastPlace marks n most Nowhere 0
+  pub place_none : {limit : ℕ} → LeastLimit marks n most limit → most < limit → LeastPlace marks n most None 0
   place_none l h = place_nowhere (λ j m. l.none_before j (omega arith))

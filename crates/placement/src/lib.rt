@@ -1,17 +1,14 @@
 // The search for a place among cells that are marked with the round that frees them, 0 where they are free.
 #![tactic(auto)]
 
-ghost use Rattle.std.specs.Prelude.{◌≡◌, ◌≤◌, ◌<◌};
-ghost use Rattle.rules.specs.declared.Fit.TheVariants.{Nowhere};
+ghost use Rattle.std.specs.Prelude.{◌≡◌, ◌≤◌, ◌<◌, None};
 ghost use Rattle.placement.specs.Fitting.{FirstFit, fit_under};
 ghost use Rattle.placement.specs.Least.{LeastLimit, LeastPlace};
-
-use rules::Fit;
 
 // Where the search for a place ended, and how many looks at a cell it took.
 #[derive(Clone, Copy)]
 pub struct Looked {
-    pub fit: Fit,
+    pub fit: Option<usize>,
     pub looks: usize,
 }
 
@@ -27,13 +24,13 @@ pub fn first_fit(marks: &[u8], limit: u8, need: usize) -> Looked
         loop {
             if run == need {
                 break 'outer Looked {
-                    fit: Fit::Start(start),
+                    fit: Some(start),
                     looks,
                 };
             }
             if start + run == marks.len() {
                 break 'outer Looked {
-                    fit: Fit::Nowhere,
+                    fit: None,
                     looks, // at every cell
                 };
             }
@@ -57,7 +54,7 @@ fn wide(x: u8) -> usize
 // The least limit under which there is a place, where nothing is free; or else one more than `most`. One pass: the highest mark of a place is the next bound, and the search goes on behind that cell, since no place that has it costs less.
 fn least_limit(marks: &[u8], need: usize, most: usize) -> usize
     requires need_nonzero { (0 < need) × (most ≤ 30) }
-    requires need_value { fit_under marks.now 0 need ≡ Nowhere }
+    requires need_value { fit_under marks.now 0 need ≡ None }
     ensures { LeastLimit marks.now need most result }
 {
     let mut bound = most + 1;
@@ -96,7 +93,7 @@ fn least_limit(marks: &[u8], need: usize, most: usize) -> usize
 // A place, and the limit at which it was found.
 #[derive(Clone, Copy)]
 pub struct Least {
-    pub fit: Fit,
+    pub fit: Option<usize>,
     pub limit: usize,
 }
 
@@ -107,22 +104,22 @@ pub fn find_place(marks: &[u8], need: usize, most: usize) -> Least
 {
     let free = first_fit(marks, 0, need);
     let place = free.fit;
-    if let Fit::Start(start) = place {
+    if let Some(start) = place {
         return Least {
-            fit: Fit::Start(start),
+            fit: Some(start),
             limit: 0,
         };
     }
     if most == 0 {
         return Least {
-            fit: Fit::Nowhere,
+            fit: None,
             limit: 0,
         };
     }
     let limit = least_limit(marks, need, most);
     if most < limit {
         return Least {
-            fit: Fit::Nowhere,
+            fit: None,
             limit: 0, // no round is of use
         };
     }

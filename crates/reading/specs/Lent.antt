@@ -1,17 +1,15 @@
 -- What bytes_at and show lend back: a part of the pool, or the caller's notice.
 use Rattle.std.proofs.Math.Path.{◌≡◌, refl, sym, ap}
 use Rattle.std.proofs.Common.{◌∙◌}
-use Rattle.std.specs.Prelude.{Bool, List, [], ℕ, ◌+◌, ◌-◌, ◌≤◌, ◌<◌, eqb, length, get_or}
+use Rattle.std.specs.Prelude.{Bool, List, [], ℕ, ◌+◌, ◌-◌, ◌≤◌, ◌<◌, eqb, length, get_or, Ok, Err}
 use Rattle.std.proofs.Math.Bool.{true, false, cond}
 use native.Mathlib.Omega.{arith}
 use Rattle.std.proofs.Math.Dec.{leb}
 use borrow.Author.Tests.{le-leb, lt-leb, eq-eqb, ne_eqb}
 use Rattle.rules.specs.declared.Entry.{Entry}
-use Rattle.rules.specs.declared.Check.{Check}
-use Rattle.rules.specs.declared.Check.TheVariants.{Passed, Refused}
+use Rattle.rules.specs.Outcome.{Check}
 use Rattle.rules.specs.declared.Found.{Found}
 use Rattle.rules.specs.declared.Found.TheVariants.{Live, Dead, Missing}
-use Rattle.rules.specs.declared.Outcome.{Outcome}
 use Rattle.rules.specs.Layout.{entries_of, none, part, value_offset, value_bytes, Memory, entry_in, memory_of}
 use Rattle.rules.specs.LookUp.{look_up}
 use Rattle.rules.specs.Soundness.{sound}
@@ -20,6 +18,7 @@ use Rattle.rules.specs.Calls.{bytes_start, bytes_at_call, text_found, show_found
 use Rattle.laws.specs.ChecksLaws.{key_passed}
 use Rattle.laws.specs.Buffers.{entry_inside}
 use Rattle.laws.specs.Meant.{NoLive, else_is, live_there}
+use Rattle.rules.specs.declared.Refusal.{Refusal}
 
 -- ---- bytes_at: the bytes, and where they stand for a pool that begins at `origin`
 
@@ -41,11 +40,11 @@ module _ (pool : List ℕ) (offset size : ℕ) (origin : ℕ × ℕ) where
 -- ---- show: the live text's entry, if a get would be answered
 
 module _ (clock : ℕ) (key : List ℕ) (m : Memory) where
-  pub text_refused : (c : Check) (o : Outcome) → c ≡ Refused o → Missing ≡ show_found c clock key m
+  pub text_refused : (c : Check) (o : Refusal) → c ≡ Err o → Missing ≡ show_found c clock key m
   unfolding show_found
   text_refused c o e = ap (λ (x : Check). show_found x clock key m) (sym e)
 
-  text_passed : (c : Check) → c ≡ Passed → text_found m (look_up clock key m) ≡ show_found c clock key m
+  text_passed : (c : Check) → c ≡ (Ok tt) → text_found m (look_up clock key m) ≡ show_found c clock key m
   unfolding show_found
   text_passed c e = ap (λ (x : Check). show_found x clock key m) (sym e)
 
@@ -60,12 +59,12 @@ module _ (clock : ℕ) (key : List ℕ) (m : Memory) where
   of_text i (Dead j) e = absurd (let z : ◌≡◌ {A = ℕ} 0 1 = cc in omega arith)
   of_text i Missing e = e
 
-  of_show : (i : ℕ) (c : Check) → show_found c clock key m ≡ Live i → (Passed ≡ c) × (look_up clock key m ≡ Live i)
+  of_show : (i : ℕ) (c : Check) → show_found c clock key m ≡ Live i → ((Ok tt) ≡ c) × (look_up clock key m ≡ Live i)
   unfolding show_found
-  of_show i Passed e = (refl, of_text i (look_up clock key m) e)
-  of_show i (Refused o) e = absurd (let z : ◌≡◌ {A = ℕ} 0 1 = cc in omega arith)
+  of_show i (Ok _) e = (refl, of_text i (look_up clock key m) e)
+  of_show i (Err o) e = absurd (let z : ◌≡◌ {A = ℕ} 0 1 = cc in omega arith)
 
-module _ (clock : ℕ) (dir pool key : List ℕ) (c : Check) (p : c ≡ Passed) (f : Found) (e : f ≡ look_up clock key (memory_of dir pool)) where
+module _ (clock : ℕ) (dir pool key : List ℕ) (c : Check) (p : c ≡ (Ok tt)) (f : Found) (e : f ≡ look_up clock key (memory_of dir pool)) where
   pub text_nothing : NoLive f → Missing ≡ show_found c clock key (memory_of dir pool)
   unfolding text_found
   text_nothing n =
@@ -87,7 +86,7 @@ module _ (clock : ℕ) (dir pool key : List ℕ) (c : Check) (p : c ≡ Passed) 
 
 module _ (clock : ℕ) (dir pool key : List ℕ) (f : Found) (e : f ≡ show_found (key_checks dir pool clock key) clock key (memory_of dir pool)) where
   module _ (i : ℕ) (q : f ≡ Live i) where
-    told : (Passed ≡ key_checks dir pool clock key) × (look_up clock key (memory_of dir pool) ≡ Live i)
+    told : ((Ok tt) ≡ key_checks dir pool clock key) × (look_up clock key (memory_of dir pool) ≡ Live i)
     told = of_show clock key (memory_of dir pool) i (key_checks dir pool clock key) (sym e ∙ q)
 
     pub show_sound : sound dir pool ≡ true

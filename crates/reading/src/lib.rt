@@ -9,31 +9,31 @@ ghost use Rattle.rules.specs.Checks.{key_checks};
 ghost use Rattle.rules.specs.Calls.{Does, gave, shown, get_found, get_work, get_call, stale_found, get_stale_call, ttl_found, ttl_call, bytes_start, bytes_at_call, show_found, show_call, show_start};
 ghost use Rattle.reading.specs.Readable.{Readable};
 
-use rules::{Answer, Check, Entry, Found, Outcome};
+use rules::{Answer, Entry, Found, Refusal, Reply};
 
 // What a reader answers of an entry: its kind, flags and value, and where the value stands in the pool.
-fn shown(pool: &[u8], e: Entry) -> Outcome
+fn shown(pool: &[u8], e: Entry) -> Reply
     requires { Readable pool.now e }
-    ensures { result ≡ shown pool.now e }
+    ensures { Ok result ≡ shown pool.now e }
 {
     let flags = e.flags as u32;
     let offset = 32 * e.start as usize + e.klen as usize;
     let kind = e.kind;
     if kind == 1 {
-        return Outcome::Boolean {
+        return Reply::Boolean {
             flags,
             on: pool[offset] != 0,
             offset,
         };
     }
     if kind == 3 {
-        return Outcome::Number {
+        return Reply::Number {
             flags,
             number: values::number_at(pool, e),
             offset,
         };
     }
-    Outcome::Text {
+    Reply::Text {
         flags,
         offset,
         size: e.vlen as usize,
@@ -47,12 +47,12 @@ fn get_swept(dir: &mut [u64], pool: &[u8], clock: u64, key: &[u8], removed: usiz
 {
     let found = memory::look_up(dir, pool, clock, key);
     let Found::Live(i) = found else {
-        return Answer::plain(Outcome::NotFound, removed);
+        return Answer::plain(Err(Refusal::NotFound), removed);
     };
     let e = directory::record_at(dir, i);
-    let outcome = shown(pool, e);
+    let reply = shown(pool, e);
     directory::put_front(dir, i, e);
-    Answer::plain(outcome, removed)
+    Answer::plain(Ok(reply), removed)
 }
 
 // get on a sound memory.
@@ -69,8 +69,8 @@ pub fn get(dir: &mut [u64], pool: &mut [u8], clock: u64, key: &[u8]) -> Answer
     ensures { gave result dir.new pool.new ≡ get_call dir.old pool.old clock key.now }
 {
     let check = checks::of_key(dir, pool, clock, key);
-    if let Check::Refused(o) = check {
-        return Answer::plain(o, 0); // before the sweep
+    if let Err(refusal) = check {
+        return Answer::plain(Err(refusal), 0); // before the sweep
     }
     get_in(dir, pool, clock, key)
 }
@@ -82,9 +82,9 @@ pub fn get_stale_in(dir: &[u64], pool: &[u8], clock: u64, key: &[u8]) -> Answer
 {
     let found = memory::look_up(dir, pool, clock, key);
     match found {
-        Found::Live(i) => Answer::marked(shown(pool, directory::record_at(dir, i)), false),
-        Found::Dead(i) => Answer::marked(shown(pool, directory::record_at(dir, i)), true),
-        Found::Missing => Answer::plain(Outcome::NotFound, 0),
+        Found::Live(i) => Answer::marked(Ok(shown(pool, directory::record_at(dir, i))), false),
+        Found::Dead(i) => Answer::marked(Ok(shown(pool, directory::record_at(dir, i))), true),
+        Found::Missing => Answer::plain(Err(Refusal::NotFound), 0),
     }
 }
 
@@ -93,8 +93,8 @@ pub fn get_stale(dir: &[u64], pool: &[u8], clock: u64, key: &[u8]) -> Answer
     ensures { result ≡ get_stale_call dir.now pool.now clock key.now }
 {
     let check = checks::of_key(dir, pool, clock, key);
-    if let Check::Refused(o) = check {
-        return Answer::plain(o, 0); // nothing is looked up
+    if let Err(refusal) = check {
+        return Answer::plain(Err(refusal), 0); // nothing is looked up
     }
     get_stale_in(dir, pool, clock, key)
 }
@@ -106,10 +106,10 @@ pub fn ttl_in(dir: &[u64], pool: &[u8], clock: u64, key: &[u8]) -> Answer
 {
     let found = memory::look_up(dir, pool, clock, key); // live or dead by this clock
     let Found::Live(i) = found else {
-        return Answer::plain(Outcome::NotFound, 0);
+        return Answer::plain(Err(Refusal::NotFound), 0);
     };
     let left = time::time_left(directory::record_at(dir, i), clock);
-    Answer::plain(Outcome::Count(left), 0)
+    Answer::plain(Ok(Reply::Count(left)), 0)
 }
 
 // ttl: what is left of a live entry's life, 0 if it never expires; missing or dead gives 8. Nothing changes.
@@ -117,8 +117,8 @@ pub fn ttl(dir: &[u64], pool: &[u8], clock: u64, key: &[u8]) -> Answer
     ensures { result ≡ ttl_call dir.now pool.now clock key.now }
 {
     let check = checks::of_key(dir, pool, clock, key);
-    if let Check::Refused(o) = check {
-        return Answer::plain(o, 0); // no time is told
+    if let Err(refusal) = check {
+        return Answer::plain(Err(refusal), 0); // no time is told
     }
     ttl_in(dir, pool, clock, key)
 }
@@ -145,7 +145,7 @@ pub fn find_text(dir: &[u64], pool: &[u8], clock: u64, key: &[u8]) -> Found
     ensures { result ≡ show_found (key_checks dir.now pool.now clock key.now) clock key.now (memory_of dir.now pool.now) }
 {
     let check = checks::of_key(dir, pool, clock, key);
-    if let Check::Refused(_) = check {
+    if let Err(_) = check {
         return Found::Missing;
     }
     let found = memory::look_up(dir, pool, clock, key); // no sweep: nothing changes

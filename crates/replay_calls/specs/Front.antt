@@ -1,5 +1,5 @@
 -- The memory that replay owns: no `fresh` yet, or a sound memory at the front of what is lent.
-use Rattle.std.specs.Prelude.{◌≡◌, Bool, true, false, ◌&&◌, ◌⊎◌, List, [], ◌++◌, ℕ, ◌+◌, ◌*◌, ◌≤◌, ◌<◌, length, take, replicate, ℤ, leb}
+use Rattle.std.specs.Prelude.{◌≡◌, Bool, true, false, ◌&&◌, ◌⊎◌, List, [], ◌++◌, ℕ, ◌+◌, ◌*◌, ◌≤◌, ◌<◌, length, take, replicate, ℤ, leb, Err, Ok}
 use Rattle.std.proofs.Common.{sym, ap, ◌∙◌, subst, inl, inr, arith, take-append-drop, length-append, length-take-le, take_at, to_z, of_z, SFits, to_z-of_z}
 use Rattle.std.proofs.Math.Bool.{and-false}
 use Rattle.std.proofs.Math.ListN.{drop}
@@ -8,10 +8,8 @@ use Rattle.std.specs.Int.{w64}
 use Rattle.rules.specs.declared.Operation.TheVariants.{Set}
 use borrow.Author.Tests.{ne_eqb, eq-eqb, le-leb, lt-leb}
 use Rattle.rules.specs.declared.Answer.{Answer}
-use Rattle.rules.specs.declared.Outcome.{Outcome}
-use Rattle.rules.specs.declared.Outcome.TheVariants.{NotSound}
-use Rattle.rules.specs.declared.Check.{Check}
-use Rattle.rules.specs.declared.Check.TheVariants.{Passed, Refused}
+use Rattle.rules.specs.declared.Refusal.TheVariants.{NotSound}
+use Rattle.rules.specs.Outcome.{Check}
 use Rattle.rules.specs.Layout.{cells_of, Memory, memory_of}
 use Rattle.rules.specs.Soundness.{right_lengths, sound}
 use Rattle.laws.specs.Lists.{nil, none_yet}
@@ -24,6 +22,7 @@ use Rattle.laws.specs.SoundMemory.{SoundMemory}
 use Rattle.laws.specs.CallsLaws.{gave_refused, gave_passed}
 use Rattle.laws.specs.Carry.{Carries, carries_encode, sound_carries, carries_sound}
 use Rattle.laws.specs.Steps.{carries_step}
+use Rattle.rules.specs.declared.Refusal.{Refusal}
 
 abbrev pub state : ℕ → List ℕ → List ℕ → Replay
 state cells dir pool = record { cells = cells; dir = dir; pool = pool }
@@ -61,7 +60,7 @@ front_of {P} {d} {p} words bytes h =
     }
 
 -- "Before the first `fresh` every call answers 1"
-pub called_early : (work : List ℕ → List ℕ → Result) (P : ℕ) (dir pool : List ℕ) {a : Answer} → P ≡ 0 → a ≡ plain NotSound 0 → done_as a P dir pool ≡ called work (state P dir pool)
+pub called_early : (work : List ℕ → List ℕ → Result) (P : ℕ) (dir pool : List ℕ) {a : Answer} → P ≡ 0 → a ≡ plain (Err NotSound) 0 → done_as a P dir pool ≡ called work (state P dir pool)
 unfolding called
 called_early work P dir pool {a} z e = rw (eq-eqb P 0 z) (ap (λ (x : Answer). done_as x P dir pool) e)
 
@@ -84,17 +83,17 @@ module _ {P : ℕ} {dir pool : List ℕ} (f : Front P dir pool) where
       rw (ne_eqb P 0 (λ z. absurd (omega (arith, f.some)))) (ap (λ (r : Result). done_as r.answer P (r.dir ++ later_words) (r.pool ++ later_bytes)) e)
 
   -- a call whose checks refuse leaves all
-  pub called_refused : (checks : List ℕ → List ℕ → Check) (work : Memory → Work) {o : Outcome} {a : Answer} → checks fd fp ≡ Refused o → a ≡ plain o 0 → done_as a P dir pool ≡ called (λ d p. call (checks d p) work d p) (state P dir pool)
+  pub called_refused : (checks : List ℕ → List ℕ → Check) (work : Memory → Work) {o : Refusal} {a : Answer} → checks fd fp ≡ Err o → a ≡ plain (Err o) 0 → done_as a P dir pool ≡ called (λ d p. call (checks d p) work d p) (state P dir pool)
   called_refused checks work {o} {a} r e =
       ap (λ (d : List ℕ). done_as a P d pool) (sym (take-append-drop (2 + 6 * P) dir))
       ∙ ap (λ (p : List ℕ). done_as a P (fd ++ later_words) p) (sym (take-append-drop (32 * P) pool))
       ∙ called_is (λ d p. call (checks d p) work d p) (gave_refused (checks fd fp) work fd fp o a r e)
 
-  pub called_passed : (checks : List ℕ → List ℕ → Check) (work : Memory → Work) {a : Answer} {d p : List ℕ} → checks fd fp ≡ Passed → Does (work (memory_of fd fp)) (length fd) a d p → done_as a P (d ++ later_words) (p ++ later_bytes) ≡ called (λ d p. call (checks d p) work d p) (state P dir pool)
+  pub called_passed : (checks : List ℕ → List ℕ → Check) (work : Memory → Work) {a : Answer} {d p : List ℕ} → checks fd fp ≡ (Ok tt) → Does (work (memory_of fd fp)) (length fd) a d p → done_as a P (d ++ later_words) (p ++ later_bytes) ≡ called (λ d p. call (checks d p) work d p) (state P dir pool)
   called_passed checks work {a} {d} {p} e h = called_is (λ d p. call (checks d p) work d p) (gave_passed (checks fd fp) work fd fp a d p e h)
 
   -- a set, whose number the code holds in 64 bits
-  pub set_passed : (clock : ℕ) (key : List ℕ) (kind : ℕ) (number : ℤ) (text : List ℕ) (lifetime flags : ℕ) {a : Answer} {d p : List ℕ} → SFits w64 number → store_checks Set fd fp clock key kind lifetime ≡ Passed → Does (store_work Set clock (item_of clock key kind (to_z w64 (of_z w64 number)) text lifetime flags) (memory_of fd fp)) (length fd) a d p → done_as a P (d ++ later_words) (p ++ later_bytes) ≡ called (λ d p. store_call Set d p clock key kind number text lifetime flags) (state P dir pool)
+  pub set_passed : (clock : ℕ) (key : List ℕ) (kind : ℕ) (number : ℤ) (text : List ℕ) (lifetime flags : ℕ) {a : Answer} {d p : List ℕ} → SFits w64 number → store_checks Set fd fp clock key kind lifetime ≡ (Ok tt) → Does (store_work Set clock (item_of clock key kind (to_z w64 (of_z w64 number)) text lifetime flags) (memory_of fd fp)) (length fd) a d p → done_as a P (d ++ later_words) (p ++ later_bytes) ≡ called (λ d p. store_call Set d p clock key kind number text lifetime flags) (state P dir pool)
   unfolding store_call
   set_passed clock key kind number text lifetime flags {a} {d} {p} f e h =
       called_passed (λ d p. store_checks Set d p clock key kind lifetime) (store_work Set clock (item_of clock key kind number text lifetime flags)) e
@@ -133,7 +132,7 @@ fresh_carries P dir pool low high hd hp =
     (carries_encode P (length dir) (record { entries = []; pool = replicate (length pool) 0 }) hd (omega arith) (record { some_cell = low; few_cells = high; pool_size = length-replicate (length pool) 0 ∙ hp; each = nil; apart = none_yet }))
 
 -- past what is lent
-pub fresh_over : (P : ℕ) (s : Replay) {a : Answer} → (length s.dir < 2 + 6 * P) ⊎ (length s.pool < 32 * P) → a ≡ plain NotSound 0 → record { answer = a; after = s } ≡ freshened P s
+pub fresh_over : (P : ℕ) (s : Replay) {a : Answer} → (length s.dir < 2 + 6 * P) ⊎ (length s.pool < 32 * P) → a ≡ plain (Err NotSound) 0 → record { answer = a; after = s } ≡ freshened P s
 unfolding freshened
 fresh_over P s {a} over e = rw (short over) (ap (λ (x : Answer). record { answer = x; after = s }) e)
   where

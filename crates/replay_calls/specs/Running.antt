@@ -1,5 +1,5 @@
 -- The call that a line makes, done: from what the code learns case by case.
-use Rattle.std.specs.Prelude.{◌≡◌, ℕ, ◌-◌, ◌^◌, ◌≤◌, ◌<◌, length, drop, ℤ}
+use Rattle.std.specs.Prelude.{◌≡◌, ℕ, ◌-◌, ◌^◌, ◌≤◌, ◌<◌, length, drop, ℤ, Err}
 use Rattle.std.proofs.Math.Path.{ap, subst}
 use Rattle.std.proofs.Common.{◌∙◌, arith, take_all, to_z, of_z, SFits, to_z-of_z}
 use mathlib.Core.List.{List}
@@ -7,7 +7,7 @@ use Rattle.std.proofs.Math.ListN.{length-drop}
 use Rattle.std.specs.Int.{w64}
 use Rattle.rules.specs.declared.Answer.{Answer}
 use Rattle.rules.specs.declared.Operation.TheVariants as Op
-use Rattle.rules.specs.declared.Outcome.TheVariants.{LineUnreadable}
+use Rattle.rules.specs.declared.Refusal.TheVariants.{LineUnreadable}
 use Rattle.rules.specs.Answer.{plain}
 use Rattle.rules.specs.Layout.{part}
 use Rattle.rules.specs.Calls.{store_call, get_call, delete_call}
@@ -57,6 +57,6 @@ module _ (line : List ℕ) (call : Call) (i : Inside line call) where
     unfolding said line_done
     delete_runs {clock} {key} e d = rw e (runs (omega arith) r (d ∙ ap (λ (k : List ℕ). called (λ d p. delete_call d p clock k) s) (take_all (length line - key) (drop key line) (omega (arith, length-drop key line)))))
 
-    pub unreadable_runs : call ≡ Unreadable → after ≡ s → a ≡ plain LineUnreadable 0 → Runs (said line call) s a after
+    pub unreadable_runs : call ≡ Unreadable → after ≡ s → a ≡ plain (Err LineUnreadable) 0 → Runs (said line call) s a after
     unfolding said line_done
     unreadable_runs e x q = rw e (runs (omega arith) r (ap (λ (t : Replay). record { answer = a; after = t }) x ∙ ap (λ (b : Answer). record { answer = b; after = s }) q))

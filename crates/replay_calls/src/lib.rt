@@ -10,7 +10,7 @@ ghost use Rattle.replay_calls.specs.Front.{Ready, done_as, state};
 ghost use Rattle.replay_calls.specs.Ready.{Runs};
 
 use lines::Call;
-use rules::{Answer, Check, Operation, Outcome};
+use rules::{Answer, Operation, Refusal};
 
 // ---- a call on the front of the lent memory, which is known to be sound: its soundness is not tested again
 
@@ -20,11 +20,11 @@ fn do_get(dir: &mut [u64], pool: &mut [u8], cells: usize, clock: u64, key: &[u8]
     ensures { done_as result cells dir.new pool.new ≡ called (λ d p. get_call d p clock key.now) (state cells dir.old pool.old) }
 {
     if cells == 0 {
-        return Answer::plain(Outcome::NotSound, 0); // no `fresh` yet: there is nothing to look in
+        return Answer::plain(Err(Refusal::NotSound), 0); // no `fresh` yet: there is nothing to look in
     }
     let check = checks::key_arguments(clock, key);
-    if let Check::Refused(o) = check {
-        return Answer::plain(o, 0);
+    if let Err(refusal) = check {
+        return Answer::plain(Err(refusal), 0);
     }
     reading::get_in(
         &mut dir[..2 + 6 * cells],
@@ -40,11 +40,11 @@ fn do_delete(dir: &mut [u64], pool: &mut [u8], cells: usize, clock: u64, key: &[
     ensures { done_as result cells dir.new pool.new ≡ called (λ d p. delete_call d p clock key.now) (state cells dir.old pool.old) }
 {
     if cells == 0 {
-        return Answer::plain(Outcome::NotSound, 0);
+        return Answer::plain(Err(Refusal::NotSound), 0);
     }
     let check = checks::key_arguments(clock, key); // a delete checks its clock too
-    if let Check::Refused(o) = check {
-        return Answer::plain(o, 0);
+    if let Err(refusal) = check {
+        return Answer::plain(Err(refusal), 0);
     }
     upkeep::delete_in(
         &mut dir[..2 + 6 * cells],
@@ -71,11 +71,11 @@ fn do_set(
     ensures { done_as result cells dir.new pool.new ≡ called (λ d p. store_call Set d p clock key.now kind number text.now lifetime flags) (state cells dir.old pool.old) }
 {
     if cells == 0 {
-        return Answer::plain(Outcome::NotSound, 0);
+        return Answer::plain(Err(Refusal::NotSound), 0);
     }
     let check = checks::store_arguments(Operation::Set, clock, key, kind, lifetime);
-    if let Check::Refused(o) = check {
-        return Answer::plain(o, 0);
+    if let Err(refusal) = check {
+        return Answer::plain(Err(refusal), 0);
     }
     storing::store_in(
         Operation::Set,
@@ -109,13 +109,13 @@ fn do_fresh(dir: &mut [u64], pool: &mut [u8], cells: usize, count: usize) -> Ran
     if dir.len() < words {
         return Ran {
             cells,
-            answer: Answer::plain(Outcome::NotSound, 0), // too few words are lent
+            answer: Answer::plain(Err(Refusal::NotSound), 0), // too few words are lent
         };
     }
     if pool.len() < bytes {
         return Ran {
             cells,
-            answer: Answer::plain(Outcome::NotSound, 0),
+            answer: Answer::plain(Err(Refusal::NotSound), 0),
         };
     }
     let answer = memory::make_fresh(&mut dir[..words], &mut pool[..bytes]);
@@ -168,7 +168,7 @@ pub fn do_call(dir: &mut [u64], pool: &mut [u8], cells: usize, line: &[u8], call
         },
         Call::Unreadable => Ran {
             cells,
-            answer: Answer::plain(Outcome::LineUnreadable, 0),
+            answer: Answer::plain(Err(Refusal::LineUnreadable), 0),
         },
     }
 }

@@ -1,9 +1,9 @@
 -- What the calls hand to another language: the answer as words, the buffers, and places in the pool as numbers.
-use Rattle.std.specs.Prelude.{◌≡◌, Bool, cond, List, [], ◌∷◌, ℕ, length, ℤ}
+use Rattle.std.specs.Prelude.{◌≡◌, Bool, cond, List, [], ◌∷◌, ℕ, length, ℤ, Option, None}
 use Rattle.rules.specs.declared.Found.{Found}
 use Rattle.rules.specs.declared.Found.TheVariants.{Live, Dead, Missing}
 use Rattle.rules.specs.declared.Initial.{Initial}
-use Rattle.rules.specs.declared.Initial.TheVariants.{Given, Absent}
+use Rattle.rules.specs.Outcome.{given}
 use Rattle.rules.specs.Layout.{value_offset, Memory, memory_of, entry_in}
 use Rattle.rules.specs.Answer.{answer_words}
 use Rattle.rules.specs.Checks.{key_checks}
@@ -21,8 +21,8 @@ pub record ExportedListing (l : FlatListing) (answer table : List ℕ) : Type 0 
   pub table_words : table ≡ l.table
 
 -- incr's initial number, if there is one, and its lifetime
-unfoldable pub initial_of : Bool → ℤ → ℕ → Initial
-initial_of given number lifetime = cond given (Given number lifetime) Absent
+unfoldable pub initial_of : Bool → ℤ → ℕ → Option Initial
+initial_of has_initial number lifetime = cond has_initial (given number lifetime) None
 
 -- bytes-at: where the part begins, and its length
 unfoldable pub bytes_place : List ℕ → ℕ → ℕ → List ℕ

@@ -1,5 +1,5 @@
 -- Calls one after the other on the same buffers: those that may change a memory, what each gives and leaves, and what is in order after a refused one.
-use Rattle.std.specs.Prelude.{◌≡◌, List, [], ◌∷◌, ℕ, ◌^◌, ◌<◌, length, ℤ}
+use Rattle.std.specs.Prelude.{◌≡◌, List, [], ◌∷◌, ℕ, ◌^◌, ◌<◌, length, ℤ, Option}
 use Rattle.rules.specs.declared.Entry.{Entry}
 use Rattle.rules.specs.declared.Answer.{Answer}
 use Rattle.rules.specs.declared.Operation.{Operation}
@@ -15,7 +15,7 @@ pub data Call : Type 0 where
   get : (clock : ℕ) (key : List ℕ) → Call
   store : (op : Operation) (clock : ℕ) (key : List ℕ) (kind : ℕ) (number : ℤ) (text : List ℕ) (lifetime flags : ℕ) → flags < 2 ^ 32 → Call
   delete : (clock : ℕ) (key : List ℕ) → Call
-  incr : (clock : ℕ) (key : List ℕ) (by : ℤ) (initial : Initial) → Call
+  incr : (clock : ℕ) (key : List ℕ) (by : ℤ) (initial : Option Initial) → Call
   expire : (clock : ℕ) (key : List ℕ) (lifetime : ℕ) → Call
   flush_all : Call
   flush_expired : (clock maximum : ℕ) → Call

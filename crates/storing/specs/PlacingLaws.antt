@@ -1,5 +1,5 @@
 -- Placing anew, step by step: the choice, the rounds out, and the entry written.
-use Rattle.std.specs.Prelude.{◌≡◌, true, false, ◌&&◌}
+use Rattle.std.specs.Prelude.{◌≡◌, true, false, ◌&&◌, Err, Option, Some, None}
 use Rattle.std.proofs.Common.{sym, ◌∙◌, arith}
 use Rattle.std.proofs.Math.Path.{ap, subst}
 use mathlib.Core.List.{List, ◌∷◌}
@@ -7,10 +7,8 @@ use Prim.Native.Nat.{ℕ, ◌+◌, ◌*◌, ◌≤◌}
 use Rattle.std.proofs.Math.ListN.{length, length-append, length-reverse}
 use Rattle.rules.specs.declared.Entry.{Entry}
 use Rattle.rules.specs.declared.Answer.{Answer}
-use Rattle.rules.specs.declared.Outcome.{Outcome}
-use Rattle.rules.specs.declared.Outcome.TheVariants.{NoMemory}
-use Rattle.rules.specs.declared.Fit.{Fit}
-use Rattle.rules.specs.declared.Fit.TheVariants.{Start, Nowhere}
+use Rattle.rules.specs.Outcome.{Outcome}
+use Rattle.rules.specs.declared.Refusal.TheVariants.{NoMemory}
 use Rattle.rules.specs.Layout.{cells_of, encode, entries_of, put, Memory, memory_of, remove_oldest}
 use Rattle.rules.specs.Recency.{line, left, gone}
 use Rattle.rules.specs.Place.{held, Placed, run}
@@ -88,9 +86,9 @@ module _ (dir pool : List ℕ) (t : sound dir pool ≡ true) (clock most : ℕ) 
     behind_length : length dir₁ ≡ length dir
     behind_length = step_length dir pool t (oldest_sound dir pool t r.gone) h
 
-    fits_by : (f : Fit) (k start : ℕ) → RanBy clock (cells_of pool) (need_for item) most es f k → f ≡ Start start → r.gone ≡ length (gone clock k es) → Fits item start (memory_of dir₁ pool₁)
-    fits_by Nowhere k start ran e g = absurd (let z : ◌≡◌ {A = ℕ} 0 1 = cc in omega arith)
-    fits_by (Start s) k start ran e g =
+    fits_by : (f : Option ℕ) (k start : ℕ) → RanBy clock (cells_of pool) (need_for item) most es f k → f ≡ Some start → r.gone ≡ length (gone clock k es) → Fits item start (memory_of dir₁ pool₁)
+    fits_by None k start ran e g = absurd (let z : ◌≡◌ {A = ℕ} 0 1 = cc in omega arith)
+    fits_by (Some s) k start ran e g =
         let same : s ≡ start = cc in
         let mem : memory_of dir₁ pool₁ ≡ remove_oldest (length (gone clock k es)) m = holds_memory h ∙ ap (λ (n : ℕ). remove_oldest n m) g in
         let cells : cells_of (memory_of dir₁ pool₁).pool ≡ cells_of pool = omega (arith, ap (λ (x : Memory). length x.pool) (holds_memory h), (oldest_sound dir pool t r.gone).pool_size) in
@@ -102,31 +100,31 @@ module _ (dir pool : List ℕ) (t : sound dir pool ≡ true) (clock most : ℕ) 
               ∙ held_reverse (left clock k es) (start + j) (subst (λ (x : ℕ). held (left clock k es) (x + j) ≡ false) same (ran.0.frees j l));
         }
 
-    pub chosen_fits : (start : ℕ) → r.fit ≡ Start start → Fits item start (memory_of dir₁ pool₁)
+    pub chosen_fits : (start : ℕ) → r.fit ≡ Some start → Fits item start (memory_of dir₁ pool₁)
     chosen_fits start e =
-        let f : p.fit ≡ Start start = sym c.fit ∙ e in
+        let f : p.fit ≡ Some start = sym c.fit ∙ e in
         fits_by p.fit p.ran start (run_ran clock (cells_of pool) (need_for item) most es) f (c.gone ∙ ap (λ (k : ℕ). length (gone clock k es)) (room_ran p f))
 
     -- the answer of a choice, with a fit of its own
-    abbrev answered : Outcome → ℕ → Fit → Answer
+    abbrev answered : Outcome → ℕ → Option ℕ → Answer
     answered told swept f = record { rounds = r.ran; removed = swept + r.gone; forced = is_placed f && r.live; stale = false; outcome = fit_outcome told f }
 
-    work_is : (told : Outcome) (swept : ℕ) (f : Fit) → r.fit ≡ f → record { answer = answered told swept f; memory = place_fit item f (remove_oldest r.gone m) } ≡ place_anew most clock item told swept m
+    work_is : (told : Outcome) (swept : ℕ) (f : Option ℕ) → r.fit ≡ f → record { answer = answered told swept f; memory = place_fit item f (remove_oldest r.gone m) } ≡ place_anew most clock item told swept m
     unfolding place_anew searched if_room placed_by evicted forced_by memory_of
     work_is told swept f e = rw (sym e, c.fit, c.ran, c.gone, c.live)
 
     -- no place: nothing is gone by rounds
-    pub refused_does : (told : Outcome) (swept : ℕ) (a : Answer) → r.fit ≡ Nowhere → a ≡ record { rounds = 0; removed = swept + r.gone; forced = false; stale = false; outcome = NoMemory } → Does (place_anew most clock item told swept m) (length dir) a dir₁ pool₁
+    pub refused_does : (told : Outcome) (swept : ℕ) (a : Answer) → r.fit ≡ None → a ≡ record { rounds = 0; removed = swept + r.gone; forced = false; stale = false; outcome = (Err NoMemory) } → Does (place_anew most clock item told swept m) (length dir) a dir₁ pool₁
     unfolding fit_outcome place_fit is_placed
     refused_does told swept a e q =
         let z : r.ran ≡ 0 = c.ran ∙ no_room p (sym c.fit ∙ e) in
-        subst (λ (w : Work). Does w (length dir) a dir₁ pool₁) (work_is told swept Nowhere e) (record { answer = q ∙ rw z; memory = h })
+        subst (λ (w : Work). Does w (length dir) a dir₁ pool₁) (work_is told swept None e) (record { answer = q ∙ rw z; memory = h })
 
     -- a place: the entry is stored there too
-    pub placed_does : (told : Outcome) (swept : ℕ) (a : Answer) (start : ℕ) {dir₂ pool₂ : List ℕ} → r.fit ≡ Start start → Holds (length dir₁) (place_at item start (memory_of dir₁ pool₁)) dir₂ pool₂ → a ≡ record { rounds = r.ran; removed = swept + r.gone; forced = r.live; stale = false; outcome = told } → Does (place_anew most clock item told swept m) (length dir) a dir₂ pool₂
+    pub placed_does : (told : Outcome) (swept : ℕ) (a : Answer) (start : ℕ) {dir₂ pool₂ : List ℕ} → r.fit ≡ Some start → Holds (length dir₁) (place_at item start (memory_of dir₁ pool₁)) dir₂ pool₂ → a ≡ record { rounds = r.ran; removed = swept + r.gone; forced = r.live; stale = false; outcome = told } → Does (place_anew most clock item told swept m) (length dir) a dir₂ pool₂
     unfolding fit_outcome place_fit is_placed
     placed_does told swept a start {dir₂} {pool₂} e k q =
-        subst (λ (w : Work). Does w (length dir) a dir₂ pool₂) (work_is told swept (Start start) e)
+        subst (λ (w : Work). Does w (length dir) a dir₂ pool₂) (work_is told swept (Some start) e)
         (record {
           answer = q;
           memory = subst (λ (x : Memory). Holds (length dir) (place_at item start x) dir₂ pool₂) (holds_memory h) (subst (λ (n : ℕ). Holds n (place_at item start (memory_of dir₁ pool₁)) dir₂ pool₂) behind_length k);

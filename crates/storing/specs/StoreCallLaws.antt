@@ -1,9 +1,8 @@
 -- A store from its arguments: the order made of them, and the work behind the sweep.
-use Rattle.std.specs.Prelude.{◌≡◌, refl, Bool, true, false, List, [], ◌∷◌, ℕ, ◌≤◌, length, ℤ, eqb}
+use Rattle.std.specs.Prelude.{◌≡◌, refl, Bool, true, false, List, [], ◌∷◌, ℕ, ◌≤◌, length, ℤ, eqb, Ok}
 use Rattle.std.proofs.Common.{sym, ap, subst, true≢false, arith, eqb-true, ne_eqb}
 use Rattle.rules.specs.declared.Answer.{Answer}
-use Rattle.rules.specs.declared.Outcome.TheVariants.{Done}
-use Rattle.rules.specs.declared.Check.TheVariants.{Passed}
+use Rattle.rules.specs.declared.Reply.TheVariants.{Done}
 use Rattle.rules.specs.declared.Found.{Found}
 use Rattle.rules.specs.declared.Operation.{Operation}
 use Rattle.rules.specs.declared.Operation.TheVariants.{Set, SafeSet, Add, SafeAdd, Replace}
@@ -101,7 +100,7 @@ unfolding value_given
 boolean_given kind number text byte e b = rw e (ap (λ (x : ℕ). x ∷ []) b)
 
 -- a known kind that is none of the others is 1
-pub boolean_kind : (kind : ℕ) → Passed ≡ check_kind kind → (kind ≡ 0 → ⊥) → (kind ≡ 4 → ⊥) → (kind ≡ 3 → ⊥) → kind ≡ 1
+pub boolean_kind : (kind : ℕ) → (Ok tt) ≡ check_kind kind → (kind ≡ 0 → ⊥) → (kind ≡ 4 → ⊥) → (kind ≡ 3 → ⊥) → kind ≡ 1
 unfolding check_kind refuse any
 boolean_kind kind e z f n = go (eqb kind 1) refl
   where

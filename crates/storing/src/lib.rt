@@ -1,20 +1,19 @@
 // The stores: set, safe_set, add, safe_add and replace. A name that ends in `_in` is for a caller whose memory is known to be sound.
 #![tactic(auto)]
 
-ghost use Rattle.std.specs.Prelude.{◌≡◌, true, ◌+◌, ◌*◌, ◌<◌, length, get_or};
+ghost use Rattle.std.specs.Prelude.{◌≡◌, true, ◌+◌, ◌*◌, ◌<◌, length, get_or, Ok};
 ghost use Rattle.rules.specs.Layout.{entries_of, none, memory_of};
 ghost use Rattle.rules.specs.LookUp.{look_up};
 ghost use Rattle.rules.specs.Soundness.{sound};
 ghost use Rattle.rules.specs.Calls.{Holds, Does, rewrite_at, place_at, place_anew, store_item, store_over, admits, most_rounds, store_found, store_work, item_of, gave, store_call};
 ghost use Rattle.rules.specs.Checks.{store_checks};
 ghost use Rattle.rules.specs.LeastLoss.{StoreLoses};
-ghost use Rattle.rules.specs.declared.Check.TheVariants.{Passed};
-ghost use Rattle.rules.specs.declared.Outcome.TheVariants.{Done};
+ghost use Rattle.rules.specs.declared.Reply.TheVariants.{Done};
 ghost use Rattle.rules.specs.declared.Operation.TheVariants.{Set, SafeSet, Add, SafeAdd, Replace};
 ghost use Rattle.storing.specs.Order.{item_from, Storable};
 ghost use Rattle.storing.specs.Placing.{Fits};
 
-use rules::{Answer, Check, Entry, Fit, Found, Operation, Outcome};
+use rules::{Answer, Entry, Found, Operation, Refusal, Reply};
 
 // How a value is to be stored under a key: its expiry, kind and flags; the rounds that may run; what to tell where it is stored; and what the sweep has removed.
 #[derive(Clone, Copy)]
@@ -23,7 +22,7 @@ pub struct Order {
     pub kind: u64,
     pub flags: u64,
     pub most: usize,
-    pub told: Outcome,
+    pub told: Reply,
     pub removed: usize,
 }
 
@@ -72,20 +71,20 @@ fn place_anew(
 ) -> Answer
     requires pool_value { sound dir.old pool.old ≡ true }
     requires storable { Storable order key.now value.now }
-    ensures { Does (place_anew order.most clock (item_from order key.now value.now) order.told order.removed (memory_of dir.old pool.old)) (length dir.old) result dir.new pool.new }
+    ensures { Does (place_anew order.most clock (item_from order key.now value.now) (Ok order.told) order.removed (memory_of dir.old pool.old)) (length dir.old) result dir.new pool.new }
 {
     let need = values::need(key.len(), value.len());
     let choice = eviction::choose(dir, pool, clock, need, order.most);
     let fit = choice.fit;
     memory::remove_oldest(dir, pool, choice.gone); // none if there is no place
     let removed = order.removed + choice.gone;
-    let Fit::Start(start) = fit else {
+    let Some(start) = fit else {
         return Answer {
             rounds: 0,
             removed,
             forced: false,
             stale: false,
-            outcome: Outcome::NoMemory,
+            outcome: Err(Refusal::NoMemory),
         };
     };
     place_at(dir, pool, start, key, value, order);
@@ -95,7 +94,7 @@ fn place_anew(
         removed,
         forced: choice.live, // a live entry went
         stale: false,
-        outcome: told,
+        outcome: Ok(told),
     }
 }
 
@@ -112,7 +111,7 @@ fn store_over(
     requires pool_value { sound dir.old pool.old ≡ true }
     requires storable { Storable order key.now value.now }
     requires i_in_bounds { i < length (entries_of dir.old) }
-    ensures { Does (store_over order.most clock (item_from order key.now value.now) order.told order.removed (memory_of dir.old pool.old) i) (length dir.old) result dir.new pool.new }
+    ensures { Does (store_over order.most clock (item_from order key.now value.now) (Ok order.told) order.removed (memory_of dir.old pool.old) i) (length dir.old) result dir.new pool.new }
 {
     let old = directory::record_at(dir, i);
     if old.vlen != value.len() as u64 {
@@ -129,7 +128,7 @@ fn store_over(
     };
     rewrite_at(dir, pool, i, e, value);
     let told = order.told;
-    Answer::plain(told, order.removed)
+    Answer::plain(Ok(told), order.removed)
 }
 
 // Stores a value under a key, of which the look-up has found what it found.
@@ -145,7 +144,7 @@ pub fn store_item(
     requires pool_value { sound dir.old pool.old ≡ true }
     requires storable { Storable order key.now value.now }
     requires found_value { found ≡ look_up clock key.now (memory_of dir.old pool.old) }
-    ensures { Does (store_item order.most clock (item_from order key.now value.now) order.told order.removed (memory_of dir.old pool.old) found) (length dir.old) result dir.new pool.new }
+    ensures { Does (store_item order.most clock (item_from order key.now value.now) (Ok order.told) order.removed (memory_of dir.old pool.old) found) (length dir.old) result dir.new pool.new }
 {
     match found {
         Found::Live(i) => store_over(dir, pool, clock, key, value, order, i),
@@ -155,35 +154,35 @@ pub fn store_item(
 }
 
 // replace wants a live entry, add none.
-fn admits(op: Operation, found: Found) -> Check
+fn admits(op: Operation, found: Found) -> Result<(), Refusal>
     ensures { result ≡ admits op found }
 {
     match op {
-        Operation::Set => Check::Passed,
-        Operation::SafeSet => Check::Passed,
+        Operation::Set => Ok(()),
+        Operation::SafeSet => Ok(()),
         Operation::Add => admits_add(found),
         Operation::SafeAdd => admits_add(found),
         Operation::Replace => admits_replace(found),
     }
 }
 
-fn admits_add(found: Found) -> Check
+fn admits_add(found: Found) -> Result<(), Refusal>
     ensures { result ≡ admits Add found }
 {
     match found {
-        Found::Live(_) => Check::Refused(Outcome::Exists),
-        Found::Dead(_) => Check::Passed,
-        Found::Missing => Check::Passed,
+        Found::Live(_) => Err(Refusal::Exists),
+        Found::Dead(_) => Ok(()),
+        Found::Missing => Ok(()),
     }
 }
 
-fn admits_replace(found: Found) -> Check
+fn admits_replace(found: Found) -> Result<(), Refusal>
     ensures { result ≡ admits Replace found }
 {
     match found {
-        Found::Live(_) => Check::Passed,
-        Found::Dead(_) => Check::Refused(Outcome::NotFound),
-        Found::Missing => Check::Refused(Outcome::NotFound),
+        Found::Live(_) => Ok(()),
+        Found::Dead(_) => Err(Refusal::NotFound),
+        Found::Missing => Err(Refusal::NotFound),
     }
 }
 
@@ -217,8 +216,8 @@ fn store_swept(
 {
     let found = memory::look_up(dir, pool, clock, key);
     let admitted = admits(op, found);
-    if let Check::Refused(o) = admitted {
-        return Answer::plain(o, order.removed);
+    if let Err(refusal) = admitted {
+        return Answer::plain(Err(refusal), order.removed);
     }
     store_item(dir, pool, clock, key, value, order, found)
 }
@@ -236,7 +235,7 @@ pub fn store_in(
     lifetime: u64,
     flags: u32,
 ) -> Answer
-    requires { Passed ≡ store_checks op dir.old pool.old clock key.now kind lifetime }
+    requires { (Ok tt) ≡ store_checks op dir.old pool.old clock key.now kind lifetime }
     ensures { Does (store_work op clock (item_of clock key.now kind number text.now lifetime flags) (memory_of dir.old pool.old)) (length dir.old) result dir.new pool.new }
 {
     let removed = eviction::sweep(dir, pool, clock);
@@ -248,7 +247,7 @@ pub fn store_in(
         kind: kind as u64,
         flags: flags as u64,
         most: most_rounds(op),
-        told: Outcome::Done,
+        told: Reply::Done,
         removed,
     };
     if kind == 4 {
@@ -279,8 +278,8 @@ pub fn store(
     ensures loss { StoreLoses op dir.old pool.old clock key.now kind number text.now lifetime flags (gave result dir.new pool.new) }
 {
     let check = checks::of_store(op, dir, pool, clock, key, kind, lifetime);
-    if let Check::Refused(o) = check {
-        return Answer::plain(o, 0);
+    if let Err(refusal) = check {
+        return Answer::plain(Err(refusal), 0);
     }
     store_in(
         op, dir, pool, clock, key, kind, number, text, lifetime, flags,

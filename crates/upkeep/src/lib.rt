@@ -1,9 +1,9 @@
 // Upkeep: delete, expire, flush_all and flush_expired. A name that ends in `_in` is for a caller whose memory is known to be sound.
 #![tactic(auto)]
 
-ghost use Rattle.std.specs.Prelude.{◌≡◌, true, false, ◌≤◌, ◌<◌, length};
+ghost use Rattle.std.specs.Prelude.{◌≡◌, true, false, ◌≤◌, ◌<◌, length, Ok};
 ghost use Rattle.rules.specs.Layout.{entries_of, Dir, memory_of, remove};
-ghost use Rattle.rules.specs.declared.Outcome.TheVariants.{Done};
+ghost use Rattle.rules.specs.declared.Reply.TheVariants.{Done};
 ghost use Rattle.rules.specs.Time.{expiry_of, too_late};
 ghost use Rattle.rules.specs.LookUp.{look_up};
 ghost use Rattle.rules.specs.Soundness.{sound};
@@ -11,16 +11,16 @@ ghost use Rattle.rules.specs.Calls.{Does, gave, did, delete_found, delete_work, 
 ghost use Rattle.upkeep.specs.Flushing.{GoFrom};
 ghost use Rattle.upkeep.specs.Dropping.{Dropped};
 
-use rules::{Answer, Check, Entry, Found, Outcome};
+use rules::{Answer, Entry, Found, Refusal, Reply};
 
 // The entry at i goes, and the delete is done.
 fn delete_at(dir: &mut [u64], pool: &mut [u8], i: usize, removed: usize) -> Answer
     requires pool_value { sound dir.old pool.old ≡ true }
     requires i_in_bounds { i < length (entries_of dir.old) }
-    ensures { Does (did Done removed (remove i (memory_of dir.old pool.old))) (length dir.old) result dir.new pool.new }
+    ensures { Does (did (Ok Done) removed (remove i (memory_of dir.old pool.old))) (length dir.old) result dir.new pool.new }
 {
     memory::remove(dir, pool, i);
-    Answer::plain(Outcome::Done, removed)
+    Answer::plain(Ok(Reply::Done), removed)
 }
 
 // delete behind its sweep: the entry under the key goes, live or dead.
@@ -38,7 +38,7 @@ pub fn delete_swept(
     match found {
         Found::Live(i) => delete_at(dir, pool, i, removed),
         Found::Dead(i) => delete_at(dir, pool, i, removed),
-        Found::Missing => Answer::plain(Outcome::Done, removed), // nothing was there
+        Found::Missing => Answer::plain(Ok(Reply::Done), removed), // nothing was there
     }
 }
 
@@ -56,8 +56,8 @@ pub fn delete(dir: &mut [u64], pool: &mut [u8], clock: u64, key: &[u8]) -> Answe
     ensures { gave result dir.new pool.new ≡ delete_call dir.old pool.old clock key.now }
 {
     let check = checks::of_key(dir, pool, clock, key);
-    if let Check::Refused(o) = check {
-        return Answer::plain(o, 0);
+    if let Err(refusal) = check {
+        return Answer::plain(Err(refusal), 0);
     }
     delete_in(dir, pool, clock, key)
 }
@@ -70,7 +70,7 @@ pub fn expire_in(dir: &mut [u64], pool: &[u8], clock: u64, key: &[u8], lifetime:
 {
     let found = memory::look_up(dir, pool, clock, key);
     let Found::Live(i) = found else {
-        return Answer::plain(Outcome::NotFound, 0);
+        return Answer::plain(Err(Refusal::NotFound), 0);
     };
     let e = directory::record_at(dir, i);
     let after = Entry {
@@ -82,7 +82,7 @@ pub fn expire_in(dir: &mut [u64], pool: &[u8], clock: u64, key: &[u8], lifetime:
         vlen: e.vlen,
     };
     directory::replace_at(dir, i, after);
-    Answer::plain(Outcome::Done, 0)
+    Answer::plain(Ok(Reply::Done), 0)
 }
 
 // expire: gives a live entry another expiry, 0 (never) for a lifetime of 0; else 8. Neither sweeps nor moves.
@@ -90,8 +90,8 @@ pub fn expire(dir: &mut [u64], pool: &[u8], clock: u64, key: &[u8], lifetime: u6
     ensures { gave result dir.new pool.now ≡ expire_call dir.old pool.now clock key.now lifetime }
 {
     let check = checks::of_expire(dir, pool, clock, key, lifetime);
-    if let Check::Refused(o) = check {
-        return Answer::plain(o, 0);
+    if let Err(refusal) = check {
+        return Answer::plain(Err(refusal), 0);
     }
     expire_in(dir, pool, clock, key, lifetime)
 }
@@ -102,7 +102,7 @@ pub fn flush_all_in(dir: &mut [u64], pool: &[u8]) -> Answer
     ensures { Does (flush_all_work (memory_of dir.old pool.now)) (length dir.old) result dir.new pool.now }
 {
     directory::expire_all(dir, 1);
-    Answer::plain(Outcome::Done, 0)
+    Answer::plain(Ok(Reply::Done), 0)
 }
 
 // flush_all: every expiry becomes 1. It takes no clock.
@@ -110,7 +110,7 @@ pub fn flush_all(dir: &mut [u64], pool: &[u8]) -> Answer
     ensures { gave result dir.new pool.now ≡ flush_all_call dir.old pool.now }
 {
     if !soundness::is_sound(dir, pool) {
-        return Answer::plain(Outcome::NotSound, 0);
+        return Answer::plain(Err(Refusal::NotSound), 0);
     }
     flush_all_in(dir, pool)
 }
@@ -169,7 +169,7 @@ pub fn flush_expired_in(dir: &mut [u64], pool: &mut [u8], clock: u64, maximum: u
     let most = values::up_to(maximum, n);
     let first = wipe_dead(dir, pool, clock, most);
     let kept = drop_dead(dir, clock, first);
-    Answer::plain(Outcome::Done, n - kept)
+    Answer::plain(Ok(Reply::Done), n - kept)
 }
 
 // flush_expired: dead entries go, longest unused first, up to a maximum (0 for all); removed tells how many.
@@ -177,8 +177,8 @@ pub fn flush_expired(dir: &mut [u64], pool: &mut [u8], clock: u64, maximum: u64)
     ensures { gave result dir.new pool.new ≡ flush_expired_call dir.old pool.old clock maximum }
 {
     let check = checks::of_clock(dir, pool, clock);
-    if let Check::Refused(o) = check {
-        return Answer::plain(o, 0);
+    if let Err(refusal) = check {
+        return Answer::plain(Err(refusal), 0);
     }
     flush_expired_in(dir, pool, clock, maximum)
 }

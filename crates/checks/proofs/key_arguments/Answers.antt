@@ -1,16 +1,19 @@
--- `checks::key_arguments` meets its contract.
-use mathlib.Core.Path.{sym, ◌∙◌}
-use Rattle.laws.specs.ChecksLaws.{then_stop, then_on, key_empty, key_long, key_fits}
+use Rattle.std.proofs.Common.{rules}
+use Rattle.rules.specs.Checks.{◌then◌, check_clock, check_key, refuse}
 use Rattle.checks.proofs.key_arguments.Goals as goal
 
-pub returns-in-Refused : goal.returns-in-Refused
-returns-in-Refused c = then_stop _ _ _ (sym c.in-Refused.is ∙ c.clock_argument-first.ensures)
+pub returns-in_err-clock_argument : goal.returns-in_err-clock_argument
+unfolding ◌then◌
+returns-in_err-clock_argument c = search rules
 
-pub returns-then-key-eq0 : goal.returns-then-key-eq0
-returns-then-key-eq0 c = then_on _ _ _ (sym c.in_default.is ∙ c.clock_argument-first.ensures) (key_empty _ c.if-key-eq0.true)
+pub returns-then-is_empty : goal.returns-then-is_empty
+unfolding ◌then◌ check_key refuse
+returns-then-is_empty c = search rules
 
 pub returns-then-key-gt65535 : goal.returns-then-key-gt65535
-returns-then-key-gt65535 c = then_on _ _ _ (sym c.in_default.is ∙ c.clock_argument-first.ensures) (key_long _ c.if-key-eq0.false c.if-key-gt65535.true)
+unfolding ◌then◌ check_key refuse
+returns-then-key-gt65535 c = search rules
 
 pub returns : goal.returns
-returns c = then_on _ _ _ (sym c.in_default.is ∙ c.clock_argument-first.ensures) (key_fits _ c.if-key-eq0.false c.if-key-gt65535.false)
+unfolding ◌then◌ check_key refuse
+returns c = search rules

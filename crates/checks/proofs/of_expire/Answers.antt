@@ -1,13 +1,11 @@
--- `checks::of_expire` meets its contract.
-use mathlib.Core.Path.{sym, ◌∙◌}
-use Rattle.rules.specs.Checks.{expire_checks}
-use Rattle.laws.specs.ChecksLaws.{then_stop, then_on}
+use Rattle.std.proofs.Common.{rules}
+use Rattle.rules.specs.Checks.{expire_checks, ◌then◌}
 use Rattle.checks.proofs.of_expire.Goals as goal
 
-pub returns-in-Refused : goal.returns-in-Refused
-unfolding expire_checks
-returns-in-Refused c = then_stop _ _ _ (sym c.in-Refused.is ∙ c.of_key-first.ensures)
+pub returns-in_err-of_key : goal.returns-in_err-of_key
+unfolding expire_checks ◌then◌
+returns-in_err-of_key c = search rules
 
 pub returns : goal.returns
-unfolding expire_checks
-returns c = then_on _ _ _ (sym c.in_default.is ∙ c.of_key-first.ensures) c.of_lifetime.ensures
+unfolding expire_checks ◌then◌
+returns c = search rules

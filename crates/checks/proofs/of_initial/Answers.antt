@@ -1,12 +1,11 @@
--- `checks::of_initial` meets its contract.
-use mathlib.Core.Path.{sym, ap, ◌∙◌}
+use Rattle.std.proofs.Common.{rules}
 use Rattle.rules.specs.Checks.{check_initial}
 use Rattle.checks.proofs.of_initial.Goals as goal
 
-pub returns-in-Given : goal.returns-in-Given
+pub returns-in-Some : goal.returns-in-Some
 unfolding check_initial
-returns-in-Given c = c.of_lifetime.ensures ∙ sym (ap (check_initial _) c.in-Given.is)
+returns-in-Some c = search rules
 
-pub returns-in-Absent : goal.returns-in-Absent
+pub returns-in-None : goal.returns-in-None
 unfolding check_initial
-returns-in-Absent c = sym (ap (check_initial _) c.in-Absent.is)
+returns-in-None c = search rules

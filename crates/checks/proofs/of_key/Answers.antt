@@ -1,13 +1,11 @@
--- `checks::of_key` meets its contract.
-use Rattle.std.proofs.Common.{not}
-use mathlib.Core.Path.{sym, ◌∙◌, ap}
-use Rattle.rules.specs.Checks.{key_checks, clock_checks}
-use Rattle.laws.specs.ChecksLaws.{then_stop, sound_not, key_behind}
+use Rattle.std.proofs.Common.{rules}
+use Rattle.rules.specs.Checks.{key_checks, clock_checks, ◌then◌}
 use Rattle.checks.proofs.of_key.Goals as goal
 
-pub returns-then-not-is_sound : goal.returns-then-not-is_sound
-unfolding key_checks clock_checks
-returns-then-not-is_sound c = then_stop _ _ _ (then_stop _ _ _ (sound_not _ _ _ c.is_sound.ensures (ap not c.if-not-is_sound.true)))
+pub returns-in_err-memory_argument : goal.returns-in_err-memory_argument
+unfolding key_checks clock_checks ◌then◌
+returns-in_err-memory_argument c = search rules
 
 pub returns : goal.returns
-returns c = c.key_arguments.ensures ∙ sym (key_behind _ _ (sym c.is_sound.ensures ∙ c.if-not-is_sound.false) _ _)
+unfolding key_checks clock_checks ◌then◌
+returns c = search rules

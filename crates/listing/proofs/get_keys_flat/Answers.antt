@@ -5,9 +5,9 @@ use Rattle.listing.specs.Listings.{flat_refused, flat_passed}
 use mathlib.Core.Path.{sym, ◌∙◌}
 use Rattle.listing.proofs.get_keys_flat.Goals as goal
 
-pub returns-in-Refused : goal.returns-in-Refused
+pub returns-in-Err : goal.returns-in-Err
 unfolding get_keys_flat_call
-returns-in-Refused c = flat_refused _ _ _ _ _ _ _ (sym c.of_clock-check.ensures ∙ c.in-Refused.is) c.plain.ensures
+returns-in-Err c = flat_refused _ _ _ _ _ _ _ (sym c.of_clock-check.ensures ∙ c.in-Err.is) c.plain.ensures
 
 pub get_keys_flat_in-requires : goal.get_keys_flat_in-requires
 get_keys_flat_in-requires c = clock_passed _ _ _ (sym c.in_default.is ∙ c.of_clock-check.ensures)

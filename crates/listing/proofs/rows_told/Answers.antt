@@ -1,9 +1,7 @@
 -- `listing::rows_told` meets its contract.
-use Rattle.listing.proofs.ToldLaws.{tells_count, tells_none}
+use Rattle.std.proofs.Common.{◌∙◌, sym}
+use Rattle.listing.proofs.ToldLaws.{tells_none, no_count}
 use Rattle.listing.proofs.rows_told.Goals as goal
 
-pub returns-in_default : goal.returns-in_default
-returns-in_default c = tells_none c.in_default.not-Count
-
-pub returns : goal.returns
-returns c = tells_count _ c.in-Count.is
+pub returns-in-Err : goal.returns-in-Err
+returns-in-Err c = tells_none (λ m f. no_count _ m (sym c.in-Err.is ∙ f))

@@ -4,8 +4,8 @@ use borrow.Author.Rules.{rules}
 use Rattle.placement.specs.Least.{place_free, place_safe, place_least, place_none}
 use Rattle.placement.proofs.find_place.Goals as goal
 
-pub returns-in-Start : goal.returns-in-Start
-returns-in-Start c = place_free c.first_fit-free.ensures.fit_is c.in-Start.is
+pub returns-in-Some : goal.returns-in-Some
+returns-in-Some c = place_free c.first_fit-free.ensures.fit_is c.in-Some.is
 
 pub returns-then-most-eq0 : goal.returns-then-most-eq0
 returns-then-most-eq0 c = place_safe c.if-most-eq0.true (sym c.in_default.is ∙ c.first_fit-free.ensures.fit_is)

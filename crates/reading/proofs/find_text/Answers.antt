@@ -6,8 +6,8 @@ use Rattle.laws.specs.Meant.{live_there}
 use Rattle.reading.specs.Lent.{text_refused, text_nothing, text_here, text_other}
 use Rattle.reading.proofs.find_text.Goals as goal
 
-pub returns-in-Refused : goal.returns-in-Refused
-returns-in-Refused c = text_refused _ _ _ _ _ (sym c.of_key-check.ensures ∙ c.in-Refused.is)
+pub returns-in-Err : goal.returns-in-Err
+returns-in-Err c = text_refused _ _ _ _ _ (sym c.of_key-check.ensures ∙ c.in-Err.is)
 
 pub look_up-found-requires : goal.look_up-found-requires
 look_up-found-requires c = key_passed _ _ _ _ (sym c.in_default.is ∙ c.of_key-check.ensures)

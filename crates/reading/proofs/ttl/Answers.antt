@@ -5,9 +5,9 @@ use Rattle.laws.specs.ChecksLaws.{key_passed}
 use Rattle.laws.specs.CallsLaws.{ask_refused, ask_passed}
 use Rattle.reading.proofs.ttl.Goals as goal
 
-pub returns-in-Refused : goal.returns-in-Refused
+pub returns-in-Err : goal.returns-in-Err
 unfolding ttl_call
-returns-in-Refused c = c.plain.ensures ∙ sym (ask_refused _ _ _ _ _ (sym c.of_key-check.ensures ∙ c.in-Refused.is))
+returns-in-Err c = c.plain.ensures ∙ sym (ask_refused _ _ _ _ _ (sym c.of_key-check.ensures ∙ c.in-Err.is))
 
 pub ttl_in-requires : goal.ttl_in-requires
 ttl_in-requires c = key_passed _ _ _ _ (sym c.in_default.is ∙ c.of_key-check.ensures)

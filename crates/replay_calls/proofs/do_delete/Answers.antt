@@ -10,9 +10,9 @@ use Rattle.replay_calls.proofs.do_delete.Goals as goal
 pub returns-then-cells-eq0 : goal.returns-then-cells-eq0
 returns-then-cells-eq0 c = called_early _ _ _ _ c.if-cells-eq0.true c.plain.ensures
 
-pub returns-in-Refused : goal.returns-in-Refused
+pub returns-in-Err : goal.returns-in-Err
 unfolding delete_call
-returns-in-Refused c = called_refused (ready_front c.requires c.if-cells-eq0.false) (λ d p. key_checks d p _ _) (delete_work _ _) (key_behind _ _ (ready_front c.requires c.if-cells-eq0.false).front_sound _ _ ∙ sym c.key_arguments-check.ensures ∙ c.in-Refused.is) c.plain-in-Refused.ensures
+returns-in-Err c = called_refused (ready_front c.requires c.if-cells-eq0.false) (λ d p. key_checks d p _ _) (delete_work _ _) (key_behind _ _ (ready_front c.requires c.if-cells-eq0.false).front_sound _ _ ∙ sym c.key_arguments-check.ensures ∙ c.in-Err.is) c.plain-in-Err.ensures
 
 pub slice_bounds-delete_in-end : goal.slice_bounds-delete_in-end
 slice_bounds-delete_in-end c = omega (arith, (ready_front c.requires c.if-cells-eq0.false).dir_fits)

@@ -11,9 +11,9 @@ use Rattle.replay_calls.proofs.do_set.Goals as goal
 pub returns-then-cells-eq0 : goal.returns-then-cells-eq0
 returns-then-cells-eq0 c = called_early _ _ _ _ c.if-cells-eq0.true c.plain.ensures
 
-pub returns-in-Refused : goal.returns-in-Refused
+pub returns-in-Err : goal.returns-in-Err
 unfolding store_call
-returns-in-Refused c = called_refused (ready_front c.requires c.if-cells-eq0.false) (λ d p. store_checks Set d p _ _ _ _) (store_work Set _ (item_of _ _ _ _ _ _ _)) (store_behind _ _ (ready_front c.requires c.if-cells-eq0.false).front_sound _ _ _ _ _ ∙ sym c.store_arguments-check.ensures ∙ c.in-Refused.is) c.plain-in-Refused.ensures
+returns-in-Err c = called_refused (ready_front c.requires c.if-cells-eq0.false) (λ d p. store_checks Set d p _ _ _ _) (store_work Set _ (item_of _ _ _ _ _ _ _)) (store_behind _ _ (ready_front c.requires c.if-cells-eq0.false).front_sound _ _ _ _ _ ∙ sym c.store_arguments-check.ensures ∙ c.in-Err.is) c.plain-in-Err.ensures
 
 pub slice_bounds-store_in-end : goal.slice_bounds-store_in-end
 slice_bounds-store_in-end c = omega (arith, (ready_front c.requires c.if-cells-eq0.false).dir_fits)

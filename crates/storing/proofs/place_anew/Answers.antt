@@ -23,7 +23,7 @@ returns-in_default c = refused_does _ _ c.requires.pool_value _ _ _ _ (chosen_fo
 pub place_at-requires : goal.place_at-requires
 place_at-requires c = let k = chosen_for c.need-need.ensures c.choose-choice.ensures in
     let h = c.remove_oldest.ensures in
-    record { pool_value = step_sound _ _ c.requires.pool_value (oldest_sound _ _ c.requires.pool_value _) h; storable = c.requires.storable; fits = chosen_fits _ _ c.requires.pool_value _ _ _ _ k h _ c.in-Start.is }
+    record { pool_value = step_sound _ _ c.requires.pool_value (oldest_sound _ _ c.requires.pool_value _) h; storable = c.requires.storable; fits = chosen_fits _ _ c.requires.pool_value _ _ _ _ k h _ c.in-Some.is }
 
 pub returns : goal.returns
-returns c = placed_does _ _ c.requires.pool_value _ _ _ _ (chosen_for c.need-need.ensures c.choose-choice.ensures) c.remove_oldest.ensures _ _ _ _ c.in-Start.is c.place_at.ensures refl
+returns c = placed_does _ _ c.requires.pool_value _ _ _ _ (chosen_for c.need-need.ensures c.choose-choice.ensures) c.remove_oldest.ensures _ _ _ _ c.in-Some.is c.place_at.ensures refl

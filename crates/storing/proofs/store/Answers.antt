@@ -3,8 +3,8 @@ use mathlib.Core.Path.{sym, ◌∙◌}
 use Rattle.storing.specs.Losing.{store_refused, store_done}
 use Rattle.storing.proofs.store.Goals as goal
 
-pub returns-in-Refused : goal.returns-in-Refused
-returns-in-Refused c = let p = store_refused _ _ _ _ _ _ _ _ _ _ _ _ _ c.of_store-check.ensures c.in-Refused.is c.plain.ensures in record { result = p.0; loss = p.1 }
+pub returns-in-Err : goal.returns-in-Err
+returns-in-Err c = let p = store_refused _ _ _ _ _ _ _ _ _ _ _ _ _ c.of_store-check.ensures c.in-Err.is c.plain.ensures in record { result = p.0; loss = p.1 }
 
 pub store_in-requires : goal.store_in-requires
 store_in-requires c = sym c.in_default.is ∙ c.of_store-check.ensures

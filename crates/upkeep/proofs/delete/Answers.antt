@@ -5,9 +5,9 @@ use Rattle.laws.specs.ChecksLaws.{key_passed}
 use Rattle.laws.specs.CallsLaws.{gave_refused, gave_passed}
 use Rattle.upkeep.proofs.delete.Goals as goal
 
-pub returns-in-Refused : goal.returns-in-Refused
+pub returns-in-Err : goal.returns-in-Err
 unfolding delete_call
-returns-in-Refused c = gave_refused _ (delete_work _ _) _ _ _ _ (sym c.of_key-check.ensures ∙ c.in-Refused.is) c.plain.ensures
+returns-in-Err c = gave_refused _ (delete_work _ _) _ _ _ _ (sym c.of_key-check.ensures ∙ c.in-Err.is) c.plain.ensures
 
 pub delete_in-requires : goal.delete_in-requires
 delete_in-requires c = key_passed _ _ _ _ (sym c.in_default.is ∙ c.of_key-check.ensures)

@@ -5,9 +5,9 @@ use Rattle.laws.specs.ChecksLaws.{expire_passed, expire_in_time}
 use Rattle.laws.specs.CallsLaws.{gave_refused, gave_passed}
 use Rattle.upkeep.proofs.expire.Goals as goal
 
-pub returns-in-Refused : goal.returns-in-Refused
+pub returns-in-Err : goal.returns-in-Err
 unfolding expire_call
-returns-in-Refused c = gave_refused _ _ _ _ _ _ (sym c.of_expire-check.ensures ∙ c.in-Refused.is) c.plain.ensures
+returns-in-Err c = gave_refused _ _ _ _ _ _ (sym c.of_expire-check.ensures ∙ c.in-Err.is) c.plain.ensures
 
 pub expire_in-requires : goal.expire_in-requires
 expire_in-requires c = record { pool_value = expire_passed _ _ _ _ _ (sym c.in_default.is ∙ c.of_expire-check.ensures); lifetime_value = expire_in_time _ _ _ _ _ (sym c.in_default.is ∙ c.of_expire-check.ensures) }

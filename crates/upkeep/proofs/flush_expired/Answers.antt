@@ -5,9 +5,9 @@ use Rattle.laws.specs.ChecksLaws.{clock_passed}
 use Rattle.laws.specs.CallsLaws.{gave_refused, gave_passed}
 use Rattle.upkeep.proofs.flush_expired.Goals as goal
 
-pub returns-in-Refused : goal.returns-in-Refused
+pub returns-in-Err : goal.returns-in-Err
 unfolding flush_expired_call
-returns-in-Refused c = gave_refused _ (flush_expired_work _ _) _ _ _ _ (sym c.of_clock-check.ensures ∙ c.in-Refused.is) c.plain.ensures
+returns-in-Err c = gave_refused _ (flush_expired_work _ _) _ _ _ _ (sym c.of_clock-check.ensures ∙ c.in-Err.is) c.plain.ensures
 
 pub flush_expired_in-requires : goal.flush_expired_in-requires
 flush_expired_in-requires c = clock_passed _ _ _ (sym c.in_default.is ∙ c.of_clock-check.ensures)
