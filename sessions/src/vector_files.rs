@@ -13,7 +13,7 @@ const MOST: usize = 60;
 const HEAD: &str = "\
 -- Calls that the second program (second/) made, computed once more by the definitions: the whole answer, all words and all bytes.
 -- Written by `cargo run --release --offline --bin vectors` in sessions/, not by hand.
-use Rattle.std.specs.Prelude.{◌≡◌, refl, true, false, [], ◌∷◌, ◌++◌, replicate, pos, negsuc}
+use Rattle.std.specs.Prelude.{◌≡◌, refl, true, false, [], ◌∷◌, ◌++◌, replicate, pos, negsuc, Ok, Err, None}
 ";
 
 /// A declaration: what it says of which call, and what it opens.
@@ -112,9 +112,9 @@ fn store(call: &Call, keyed: &str) -> String {
 
 fn initial(args: &Args) -> String {
     if args.has_initial {
-        format!("(Given {} {})", signed(args.number), args.lifetime)
+        format!("(given {} {})", signed(args.number), args.lifetime)
     } else {
-        String::from("Absent")
+        String::from("None")
     }
 }
 

@@ -1,6 +1,6 @@
 -- Calls that the second program (second/) made, computed once more by the definitions: the whole answer, all words and all bytes.
 -- Written by `cargo run --release --offline --bin vectors` in sessions/, not by hand.
-use Rattle.std.specs.Prelude.{◌≡◌, refl, true, false, [], ◌∷◌, ◌++◌, replicate, pos, negsuc, Ok, Err}
+use Rattle.std.specs.Prelude.{◌≡◌, refl, true, false, [], ◌∷◌, ◌++◌, replicate, pos, negsuc, Ok, Err, None}
 use Rattle.rules.specs.declared.Reply.TheVariants.{Done}
 use Rattle.rules.specs.declared.Refusal.TheVariants.{NotSound, ClockZero, KeyEmpty, KeyTooLong, KindUnknown, NilRefused, ExpiryTooLate, Exists, NoMemory}
 use Rattle.rules.specs.declared.Operation.TheVariants.{Set, SafeSet, Add}

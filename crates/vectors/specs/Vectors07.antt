@@ -1,6 +1,6 @@
 -- Calls that the second program (second/) made, computed once more by the definitions: the whole answer, all words and all bytes.
 -- Written by `cargo run --release --offline --bin vectors` in sessions/, not by hand.
-use Rattle.std.specs.Prelude.{◌≡◌, refl, true, false, [], ◌∷◌, ◌++◌, replicate, pos, negsuc, Ok, Err, Some, None}
+use Rattle.std.specs.Prelude.{◌≡◌, refl, true, false, [], ◌∷◌, ◌++◌, replicate, pos, negsuc, Ok, Err, None}
 use Rattle.rules.specs.declared.Reply.TheVariants.{Done, Sum}
 use Rattle.rules.specs.declared.Refusal.TheVariants.{NotSound, ClockZero, KeyEmpty, KeyTooLong, ExpiryTooLate, NotFound, NotNumber, SumTooLarge, NoMemory}
 use Rattle.rules.specs.Outcome.{given}
