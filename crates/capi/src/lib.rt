@@ -10,7 +10,6 @@ ghost use Rattle.rules.specs.Exports.{Exported, ExportedListing, initial_of, byt
 
 use rules::{Answer, Found, Initial};
 
-
 // ---- an answer as words
 
 // The ten words of an answer.
