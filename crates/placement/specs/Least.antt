@@ -2,6 +2,7 @@
 use Rattle.std.specs.Prelude.{◌≡◌, refl, List, ℕ, ◌+◌, ◌≤◌, ◌<◌, length, get_or, Option, Some, None}
 use Rattle.std.proofs.Common.{sym, ◌∙◌, arith, below_more}
 use Rattle.std.proofs.Math.Decide.{dec_lt}
+use Rattle.placement.specs.declared.Least.{Least}
 use Rattle.placement.specs.Fitting.{fit_under, Open, Closed, open_fits, closed_none}
 
 -- the least limit that has a fit, or one more than `most`
@@ -17,6 +18,15 @@ pub record LeastPlace (marks : List ℕ) (n most : ℕ) (fit : Option ℕ) (limi
   pub none_before : (j : ℕ) → j < limit → fit_under marks j n ≡ None
   pub no_rounds : fit ≡ None → limit ≡ 0
   pub none : fit ≡ None → (j : ℕ) → j ≤ most → fit_under marks j n ≡ None
+
+-- a place that was found: where it begins, if there is one, and its limit
+abbrev pub start_of : Option Least → Option ℕ
+start_of None = None
+start_of (Some place) = Some place.start
+
+abbrev pub limit_of : Option Least → ℕ
+limit_of None = 0
+limit_of (Some place) = place.limit
 
 -- ---- the pass
 

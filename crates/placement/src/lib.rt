@@ -1,61 +1,48 @@
 // The search for a place among cells that are marked with the round that frees them, 0 where they are free.
 #![tactic(auto)]
 
-ghost use Rattle.std.specs.Prelude.{◌≡◌, ◌≤◌, ◌<◌, None};
+ghost use Rattle.std.specs.Prelude.{◌≡◌, ◌+◌, ◌≤◌, ◌<◌, None, IfSome, unwrap_or};
 ghost use Rattle.placement.specs.Fitting.{FirstFit, fit_under};
-ghost use Rattle.placement.specs.Least.{LeastLimit, LeastPlace};
+ghost use Rattle.placement.specs.Least.{LeastLimit, LeastPlace, start_of, limit_of};
 
-// Where the search for a place ended, and how many looks at a cell it took.
-#[derive(Clone, Copy)]
+// Where the first place begins, if there is one, and how many looks at a cell it took.
+#[derive(Clone, Copy, Debug, PartialEq, Eq)]
 pub struct Looked {
     pub fit: Option<usize>,
     pub looks: usize,
 }
 
-// The lowest start from which `need` cells are all marked within the limit. A cell above the limit is stepped past, so that no cell is looked at twice.
+// The lowest start from which `need` cells are all marked within the limit. One look at each cell, up to the place's last one.
 pub fn first_fit(marks: &[u8], limit: u8, need: usize) -> Looked
     requires { 0 < need }
     ensures { FirstFit marks.now limit need result.fit result.looks }
 {
-    let mut start: usize = 0;
-    let mut looks: usize = 0;
-    'outer: loop {
-        let mut run: usize = 0; // cells within the limit
-        loop {
-            if run == need {
-                break 'outer Looked {
-                    fit: Some(start),
-                    looks,
-                };
-            }
-            if start + run == marks.len() {
-                break 'outer Looked {
-                    fit: None,
-                    looks, // at every cell
-                };
-            }
-            looks += 1;
-            if limit < marks[start + run] {
-                break;
-            }
-            run += 1;
+    let mut run: usize = 0; // cells within the limit, up to the one before
+    for (cell, &mark) in marks.iter().enumerate() {
+        if limit < mark {
+            run = 0;
+            continue;
         }
-        start += run + 1; // past the occupied one
+        run += 1;
+        if run == need {
+            return Looked {
+                fit: Some(cell + 1 - need),
+                looks: cell + 1,
+            };
+        }
+    }
+    Looked {
+        fit: None,
+        looks: marks.len(), // at every cell
     }
 }
 
-// A mark as a number.
-fn wide(x: u8) -> usize
-    ensures { result ≡ x }
-{
-    x as usize
-}
-
-// The least limit under which there is a place, where nothing is free; or else one more than `most`. One pass: the highest mark of a place is the next bound, and the search goes on behind that cell, since no place that has it costs less.
-fn least_limit(marks: &[u8], need: usize, most: usize) -> usize
+// The least limit, `most` at the most, under which there is a place, where nothing is free. One pass: the highest mark of a place is the next bound, and the search goes on behind that cell, since no place that has it costs less.
+fn least_limit(marks: &[u8], need: usize, most: usize) -> Option<usize>
     requires need_nonzero { (0 < need) × (most ≤ 30) }
     requires need_value { fit_under marks.now 0 need ≡ None }
-    ensures { LeastLimit marks.now need most result }
+    ensures least { LeastLimit marks.now need most (unwrap_or result (most + 1)) }
+    ensures within { IfSome result (λ limit. limit ≤ most) }
 {
     let mut bound = most + 1;
     let mut start: usize = 0;
@@ -66,17 +53,20 @@ fn least_limit(marks: &[u8], need: usize, most: usize) -> usize
         loop {
             if run == need {
                 if top <= 1 {
-                    break 'outer top; // no other costs less
+                    return Some(top); // no other costs less
                 }
                 bound = top;
                 start = at + 1;
                 continue 'outer;
             }
             if start + run == marks.len() {
-                break 'outer bound;
+                if most < bound {
+                    return None; // no place was met
+                }
+                return Some(bound);
             }
             let cell = start + run;
-            let mark = wide(marks[cell]);
+            let mark = usize::from(marks[cell]);
             if bound <= mark {
                 break;
             }
@@ -90,40 +80,25 @@ fn least_limit(marks: &[u8], need: usize, most: usize) -> usize
     }
 }
 
-// A place, and the limit at which it was found.
-#[derive(Clone, Copy)]
+// The first place under the least limit that has one.
+#[derive(Clone, Copy, Debug, PartialEq, Eq)]
 pub struct Least {
-    pub fit: Option<usize>,
+    pub start: usize,
     pub limit: usize,
 }
 
 // The place under the least of the limits 0 to `most` that has one. Most stores find one under 0.
-pub fn find_place(marks: &[u8], need: usize, most: usize) -> Least
+pub fn find_place(marks: &[u8], need: usize, most: usize) -> Option<Least>
     requires { (0 < need) × (most ≤ 30) }
-    ensures { LeastPlace marks.now need most result.fit result.limit }
+    ensures { LeastPlace marks.now need most (start_of result) (limit_of result) }
 {
-    let free = first_fit(marks, 0, need);
-    let place = free.fit;
-    if let Some(start) = place {
-        return Least {
-            fit: Some(start),
-            limit: 0,
-        };
+    if let Some(start) = first_fit(marks, 0, need).fit {
+        return Some(Least { start, limit: 0 });
     }
     if most == 0 {
-        return Least {
-            fit: None,
-            limit: 0,
-        };
+        return None;
     }
-    let limit = least_limit(marks, need, most);
-    if most < limit {
-        return Least {
-            fit: None,
-            limit: 0, // no round is of use
-        };
-    }
-    let found = first_fit(marks, limit as u8, need);
-    let fit = found.fit;
-    Least { fit, limit }
+    let limit = least_limit(marks, need, most)?;
+    let start = first_fit(marks, limit as u8, need).fit?;
+    Some(Least { start, limit })
 }
