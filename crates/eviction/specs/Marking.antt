@@ -5,22 +5,21 @@ use Rattle.std.proofs.Common.{◌∙◌}
 use Rattle.std.proofs.Math.Bool.{cond}
 use mathlib.Core.List.{List, [], ◌∷◌, reverse}
 use Rattle.std.proofs.Math.Logic.{⊎_elim}
-use Prim.Native.Nat.{ℕ, zero, suc, ◌+◌, ◌-◌, ◌*◌, ◌/◌, ◌≤◌, ◌<◌}
+use Prim.Native.Nat.{ℕ, zero, suc, ◌+◌, ◌≤◌, ◌<◌}
 use native.Mathlib.Omega.{arith}
 use Rattle.rules.specs.declared.Entry.{Entry}
-use Rattle.rules.specs.Layout.{need_of, entry_at, entries_of, none, Dir}
+use Rattle.rules.specs.Layout.{need_of, entries_of, none, Dir}
 use Rattle.rules.specs.Time.{dead}
 use Rattle.rules.specs.Recency.{deads, after}
 use Rattle.rules.specs.Place.{holds, held}
-use Rattle.laws.specs.LayoutLaws.{length_entries, get_d_entries}
 use Rattle.laws.specs.Cost.{mark, held_drop}
 use Rattle.laws.specs.Lists.{Each, each_at}
 use Rattle.laws.specs.Crowd.{Some}
-use Rattle.laws.specs.RecencyLaws.{deads_zero}
+use Rattle.laws.specs.RecencyLaws.{deads_zero, line_more}
 use Rattle.eviction.specs.declared.Turn.{Turn}
 use Rattle.eviction.specs.Turns.{round_of, more_of, next_turn, Joins, Begins, turn_of}
 use Rattle.laws.specs.Marks.{Written, written_cells}
-use Rattle.eviction.specs.Lines.{line_to, line_all, line_words}
+use Rattle.eviction.specs.Lines.{line_to, line_all}
 
 -- ---- one cell
 
@@ -118,61 +117,43 @@ pub record Marked (clock P : ℕ) (es : List Entry) (marks : List ℕ) : Type 0 
   pub size : length marks ≡ P
   pub marked : (c : ℕ) → get_or marks c 0 ≡ mark clock 30 es c
 
--- the records before word p are still to be marked: i of them
-pub record MarkingAt (clock P : ℕ) (dir : List ℕ) (p i : ℕ) (t : Turn) (marks : List ℕ) : Type 0 where
-  pub place : p ≡ 2 + 6 * i
+-- the first i entries are still to be marked
+pub record Marking (clock P : ℕ) (dir : List ℕ) (i : ℕ) (t : Turn) (marks : List ℕ) : Type 0 where
   pub count : i ≤ length (entries_of dir)
   pub size : length marks ≡ P
   pub rest : (c : ℕ) → mark clock 30 (reverse (entries_of dir)) c ≡ mark_from clock t.round t.more (line_to (entries_of dir) i) c (get_or marks c 0)
 
-abbrev pub Marking : ℕ → ℕ → List ℕ → ℕ → Turn → List ℕ → Type 0
-Marking clock P dir p t marks = MarkingAt clock P dir p ((p - 2) / 6) t marks
-
-pub marking_none : {clock : ℕ} {dir marks : List ℕ} (p : ℕ) → p ≡ 2 + 6 * get_or dir 1 0 → Blank marks dir → Marking clock (length marks) dir p (record { round = 0; more = 0 }) marks
-marking_none {clock} {dir} {marks} p e b =
-    let i : (p - 2) / 6 ≡ length (entries_of dir) = omega (arith, length_entries dir) in
+pub marking_none : {clock : ℕ} {dir marks : List ℕ} (i : ℕ) → i ≡ length (entries_of dir) → Blank marks dir → Marking clock (length marks) dir i (record { round = 0; more = 0 }) marks
+marking_none {clock} {dir} {marks} i e b =
     record {
-      place = omega arith;
       count = omega arith;
       size = refl;
-      rest = λ c. rw (i, b.blank c) (mark_all clock c (reverse (entries_of dir)) ∙ ap (λ (l : List Entry). mark_from clock 0 0 l c 0) (line_all (entries_of dir)));
+      rest = λ c. rw (e, b.blank c) (mark_all clock c (reverse (entries_of dir)) ∙ ap (λ (l : List Entry). mark_from clock 0 0 l c 0) (line_all (entries_of dir)));
     }
 
-module _ {clock P : ℕ} {dir marks : List ℕ} {t : Turn} {p : ℕ} (m : Marking clock P dir p t marks) (some : 2 < p) where
-  -- the words of the next entry
-  pub marking_words : Dir dir → p - 6 + 6 ≤ length dir
-  marking_words d = omega (arith, m.place, m.count, d.room)
+-- the next entry is that at i
+module _ {clock P : ℕ} {dir marks : List ℕ} {t : Turn} {k : ℕ} (m : Marking clock P dir k t marks) {i : ℕ} (s : k ≡ suc i) where
+  pub next_within : i < length (entries_of dir)
+  next_within = omega (arith, m.count)
 
-  next_index : p - 6 ≡ 2 + 6 * ((p - 6 - 2) / 6)
-  next_index = omega (arith, m.place)
-
-  next_within : (p - 6 - 2) / 6 < length (entries_of dir)
-  next_within = omega (arith, m.count, m.place)
-
-  -- and its cells
-  pub marking_cells : {old : List ℕ} (e : Entry) → e ≡ entry_at dir (p - 6) → Blank old dir → length old ≡ P → (0 < e.klen + e.vlen) × (length marks ≤ 1024) × (e.start + need_of e ≤ length marks)
+  -- its cells
+  pub marking_cells : {old : List ℕ} (e : Entry) → e ≡ get_or (entries_of dir) i none → Blank old dir → length old ≡ P → (0 < e.klen + e.vlen) × (length marks ≤ 1024) × (e.start + need_of e ≤ length marks)
   marking_cells {old} e x b l =
-      let i : ℕ = (p - 6 - 2) / 6 in
-      let y : get_or (entries_of dir) i none ≡ e = get_d_entries dir i next_within ∙ ap (entry_at dir) (sym next_index) ∙ sym x in
-      let h : Some e × (e.start + need_of e ≤ length old) = rw y at (each_at i next_within b.each) in
+      let h : Some e × (e.start + need_of e ≤ length old) = rw (sym x) at (each_at i next_within b.each) in
       (omega (arith, h.0), omega (arith, b.few, m.size), omega (arith, h.1, m.size))
 
-  pub marking_more : {new : List ℕ} {d : Bool} (e : Entry) (u : Turn) → e ≡ entry_at dir (p - 6) → d ≡ dead clock e → u ≡ next_turn d t → Written marks new e.start (e.start + need_of e) u.round → Marking clock P dir (p - 6) u new
+  pub marking_more : {new : List ℕ} {d : Bool} (e : Entry) (u : Turn) → e ≡ get_or (entries_of dir) i none → d ≡ dead clock e → u ≡ next_turn d t → Written marks new e.start (e.start + need_of e) u.round → Marking clock P dir i u new
   unfolding mark_from
   marking_more {new} {d} e u x y z w =
-      let i : ℕ = (p - 6 - 2) / 6 in
-      let s : (p - 2) / 6 ≡ suc i = omega (arith, m.place) in
       let v : u ≡ next_turn (dead clock e) t = z ∙ ap (λ (b : Bool). next_turn b t) y in
-      let next : line_to (entries_of dir) ((p - 2) / 6) ≡ e ∷ line_to (entries_of dir) i = ap (line_to (entries_of dir)) s ∙ line_words dir i next_within ∙ ap (λ (f : Entry). f ∷ line_to (entries_of dir) i) (ap (entry_at dir) (sym next_index) ∙ sym x) in
+      let next : line_to (entries_of dir) k ≡ e ∷ line_to (entries_of dir) i = ap (line_to (entries_of dir)) s ∙ line_more (entries_of dir) i next_within ∙ ap (λ (f : Entry). f ∷ line_to (entries_of dir) i) (sym x) in
       record {
-        place = next_index;
         count = omega (arith, next_within);
         size = w.size ∙ m.size;
         rest = λ c. rw (written_cells e w c, v) (m.rest c ∙ ap (λ (es : List Entry). mark_from clock t.round t.more es c (get_or marks c 0)) next);
       }
 
-pub marking_done : {clock P : ℕ} {dir marks : List ℕ} {t : Turn} {p : ℕ} → Marking clock P dir p t marks → p ≤ 2 → Marked clock P (reverse (entries_of dir)) marks
+pub marking_done : {clock P : ℕ} {dir marks : List ℕ} {t : Turn} {i : ℕ} → Marking clock P dir i t marks → i ≡ 0 → Marked clock P (reverse (entries_of dir)) marks
 unfolding mark_from
-marking_done {clock} {P} {dir} {marks} {t} {p} m h =
-    let z : (p - 2) / 6 ≡ 0 = omega arith in
+marking_done {clock} {P} {dir} {marks} {t} m z =
     record { size = m.size; marked = λ c. sym (m.rest c ∙ ap (λ (i : ℕ). mark_from clock t.round t.more (line_to (entries_of dir) i) c (get_or marks c 0)) z) }

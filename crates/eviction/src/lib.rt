@@ -1,7 +1,7 @@
 // Which entries have to leave for a new one, and where it goes. It is all decided before anything moves.
 #![tactic(auto)]
 
-ghost use Rattle.std.specs.Prelude.{◌≡◌, true, reverse, ◌+◌, ◌≤◌, ◌<◌, min, length};
+ghost use Rattle.std.specs.Prelude.{◌≡◌, true, reverse, ◌+◌, ◌≤◌, ◌<◌, length};
 ghost use Rattle.rules.specs.Layout.{cells_of, need, entries_of, Dir, memory_of};
 ghost use Rattle.rules.specs.Recency.{line, sweep_count};
 ghost use Rattle.eviction.specs.Swept.{Swept};
@@ -44,36 +44,24 @@ pub fn sweep(dir: &mut [u64], pool: &mut [u8], clock: u64) -> usize
 }
 
 // The rounds begun, 31 for any more, and how many dead entries the last of them still takes.
-#[derive(Clone, Copy)]
+#[derive(Clone, Copy, Debug, PartialEq, Eq)]
 struct Turn {
     round: u8,
     more: u8,
-}
-
-// One round more, 31 at the most.
-fn next_round(round: u8) -> u8
-    ensures { result ≡ min (round + 1) 31 }
-{
-    if round < 31 {
-        return round + 1;
-    }
-    31
 }
 
 // The turn of the next entry in the line: a dead one may go with the round, any other begins one.
 fn next_turn(turn: Turn, dead: bool) -> Turn
     ensures { result ≡ next_turn dead turn }
 {
-    if dead {
-        if 0 < turn.more {
-            return Turn {
-                round: turn.round,
-                more: turn.more - 1,
-            };
-        }
+    if dead && 0 < turn.more {
+        return Turn {
+            more: turn.more - 1,
+            ..turn
+        };
     }
     Turn {
-        round: next_round(turn.round),
+        round: turn.round.saturating_add(1).min(31),
         more: 2,
     }
 }
@@ -108,10 +96,8 @@ fn mark_line(marks: &mut [u8], dir: &[u64], clock: u64)
     ensures { Marked clock (length marks.old) (reverse (entries_of dir.now)) marks.new }
 {
     let mut turn = Turn { round: 0, more: 0 };
-    let mut p = 2 + 6 * dir[1] as usize;
-    while 2 < p {
-        p -= 6;
-        let e = directory::read(dir, p);
+    for i in (0..directory::count(dir)).rev() {
+        let e = directory::record_at(dir, i);
         turn = next_turn(turn, time::is_dead(e, clock));
         mark_entry(
             marks,
@@ -123,7 +109,7 @@ fn mark_line(marks: &mut [u8], dir: &[u64], clock: u64)
 }
 
 // How many entries leave, and whether one of them is live.
-#[derive(Clone, Copy)]
+#[derive(Clone, Copy, Debug, PartialEq, Eq)]
 struct Leavers {
     gone: usize,
     live: bool,
@@ -137,35 +123,32 @@ fn find_leavers(dir: &[u64], clock: u64, limit: usize) -> Leavers
 {
     let n = directory::count(dir);
     let mut turn = Turn { round: 0, more: 0 };
-    let mut left = n;
     let mut live = false;
-    while 0 < left {
-        let dead = time::is_dead(directory::record_at(dir, left - 1), clock);
-        let next = next_turn(turn, dead);
-        if limit < next.round as usize {
-            break;
+    for i in (0..n).rev() {
+        let dead = time::is_dead(directory::record_at(dir, i), clock);
+        turn = next_turn(turn, dead);
+        if limit < usize::from(turn.round) {
+            return Leavers {
+                gone: n - 1 - i,
+                live,
+            };
         }
-        turn = next;
-        left -= 1;
-        live = live | !dead;
+        live |= !dead;
     }
-    Leavers {
-        gone: n - left,
-        live,
-    }
+    Leavers { gone: n, live }
 }
 
-// Where a new entry goes, after how many rounds, how many entries those take, and whether one of them is live.
-#[derive(Clone, Copy)]
+// Where a new entry goes, and what the rounds take that make room for it: how many run, how many entries go, and whether one of them is live.
+#[derive(Clone, Copy, Debug, PartialEq, Eq)]
 pub struct Choice {
-    pub fit: Option<usize>,
+    pub start: usize,
     pub ran: usize,
     pub gone: usize,
     pub live: bool,
 }
 
-// The place of fewest rounds, `most` at the most, and of lowest start; without one, no rounds.
-pub fn choose(dir: &[u64], pool: &[u8], clock: u64, need: usize, most: usize) -> Choice
+// The place of fewest rounds, `most` at the most, and of lowest start, if there is one.
+pub fn choose(dir: &[u64], pool: &[u8], clock: u64, need: usize, most: usize) -> Option<Choice>
     requires pool_value { sound dir.now pool.now ≡ true }
     requires need_nonzero { (0 < need) × (most ≤ 30) }
     ensures { Chosen clock (cells_of pool.now) need most (line (memory_of dir.now pool.now)) result }
@@ -173,13 +156,12 @@ pub fn choose(dir: &[u64], pool: &[u8], clock: u64, need: usize, most: usize) ->
     let cells = pool.len() / 32;
     let mut marks = [0u8; 1024];
     mark_line(&mut marks[..cells], dir, clock);
-    let least = placement::find_place(&marks[..cells], need, most);
-    let fit = least.fit;
-    let left = find_leavers(dir, clock, least.limit);
-    Choice {
-        fit,
-        ran: least.limit,
+    let place = placement::find_place(&marks[..cells], need, most)?;
+    let left = find_leavers(dir, clock, place.limit);
+    Some(Choice {
+        start: place.start,
+        ran: place.limit,
         gone: left.gone,
         live: left.live,
-    }
+    })
 }

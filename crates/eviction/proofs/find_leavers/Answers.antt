@@ -1,25 +1,18 @@
 -- `eviction::find_leavers` meets its contract. What the entries left still add to the rounds begun and the entries gone makes the rounds of the whole line.
-use native.Mathlib.Omega.{arith}
+use Rattle.std.proofs.Common.{arith, ◌≡◌, ◌-◌}
 use Rattle.eviction.specs.Leaving.{leaving_none, leaving_more, leaves_stop, leaves_end}
 use Rattle.eviction.proofs.find_leavers.Goals as goal
-use Rattle.eviction.proofs.find_leavers.Goals.{else-loop-left-test, then-loop-left-test+then-limit-next}
 
-pub count-n-requires : goal.count-n-requires
-count-n-requires c = c.requires.dir
+pub loop-i-init : goal.loop-i-init
+loop-i-init c = leaving_none c.count-n.ensures
 
-pub loop-left-init : goal.loop-left-init
-loop-left-init c = leaving_none c.count-n.ensures
+pub returns-then-limit-from : goal.returns-then-limit-from
+returns-then-limit-from c = let e : c.count-n.result - 1 - (c.loop-i.i - 1) ≡ c.count-n.result - c.loop-i.i = omega arith in
+    rw e (leaves_stop c.loop-i.invariant c.count-n.ensures (omega arith) c.record_at.ensures c.is_dead-dead.ensures c.next_turn-turn.ensures (omega (arith, c.from.ensures)))
 
-pub record_at-requires : goal.record_at-requires
-record_at-requires c = record { dir = c.requires.dir; i_in_bounds = omega (arith, c.loop-left.invariant.count) }
-
-pub loop-left-preserved : goal.loop-left-preserved
-loop-left-preserved c = leaving_more c.loop-left.invariant (omega arith) c.requires.limit_bound c.record_at.ensures c.is_dead-dead.ensures c.next_turn-next.ensures c.if-limit-next.false
+pub loop-i-preserved : goal.loop-i-preserved
+loop-i-preserved c = leaving_more c.loop-i.invariant (omega arith) c.requires.limit_bound c.record_at.ensures c.is_dead-dead.ensures c.next_turn-turn.ensures (omega (arith, c.from.ensures))
 
 pub returns : goal.returns
-returns c =
-    elim c.loop-left-test.branch [
-      | else-loop-left-test w ↦ leaves_end c.loop-left.invariant c.count-n.ensures (omega arith)
-      | then-loop-left-test+then-limit-next w ↦
-          leaves_stop c.loop-left.invariant c.count-n.ensures (omega arith) w.record_at.ensures w.is_dead-dead.ensures w.next_turn-next.ensures w.if-limit-next.true
-    ]
+returns c = let e : c.count-n.result ≡ c.count-n.result - c.loop-i.i = omega arith in
+    rw e (leaves_end c.loop-i.invariant c.count-n.ensures (omega arith))

@@ -1,10 +1,7 @@
--- `eviction::mark_line` meets its contract. What the records before word p still write over the marks makes them those of the whole line.
-use lib.ListN.{length}
+-- `eviction::mark_line` meets its contract. What the first i entries still write over the marks makes them those of the whole line.
+use Rattle.std.proofs.Common.{length}
 use Rattle.eviction.specs.Marking.{Marking}
 use Rattle.eviction.proofs.mark_line.Given as goal
 
-abbrev pub invariant-loop-p : goal.invariant-loop-p
-invariant-loop-p l = Marking l.clock (length l.initial.marks) l.dir l.p l.turn l.marks
-
-abbrev pub decreases-loop-p : goal.decreases-loop-p
-decreases-loop-p l = l.p
+abbrev pub invariant-loop-i : goal.invariant-loop-i
+invariant-loop-i l = Marking l.clock (length l.initial.marks) l.dir l.i l.turn l.marks
