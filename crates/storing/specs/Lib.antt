@@ -5,3 +5,4 @@ pub mod Rewriting
 pub mod StoreLaws
 pub mod StoreCallLaws
 pub mod Losing
+pub mod Given

@@ -1,7 +1,6 @@
 -- A store's result, with what it loses. A signed argument reaches a callee as its bits, which is the same number.
 use Rattle.std.specs.Prelude.{◌≡◌, List, ℕ, length, ℤ, Ok, Err}
-use Rattle.std.proofs.Common.{sym, ap, subst, ◌∙◌, to_z, of_z, SFits, to_z-of_z}
-use Rattle.std.specs.Int.{w64}
+use Rattle.std.proofs.Common.{sym, subst, ◌∙◌}
 use Rattle.rules.specs.declared.Answer.{Answer}
 use Rattle.rules.specs.Outcome.{Check}
 use Rattle.rules.specs.declared.Operation.{Operation}
@@ -26,12 +25,7 @@ module _ (op : Operation) (dir pool : List ℕ) (clock : ℕ) (key : List ℕ) (
   unfolding store_call
   store_refused c o a e p q = losing (gave_refused (store_checks op dir pool clock key kind lifetime) (store_work op clock (item_of clock key kind number text lifetime flags)) dir pool o a (sym e ∙ p) q)
 
-  pub store_done : (a : Answer) (dir₁ pool₁ : List ℕ) → SFits w64 number → (Ok tt) ≡ store_checks op dir pool clock key kind lifetime → Does (store_work op clock (item_of clock key kind (to_z w64 (of_z w64 number)) text lifetime flags) (memory_of dir pool)) (length dir) a dir₁ pool₁ → is_call (gave a dir₁ pool₁) × StoreLoses op dir pool clock key kind number text lifetime flags (gave a dir₁ pool₁)
+  pub store_done : (a : Answer) (dir₁ pool₁ : List ℕ) → (Ok tt) ≡ store_checks op dir pool clock key kind lifetime → Does (store_work op clock (item_of clock key kind number text lifetime flags) (memory_of dir pool)) (length dir) a dir₁ pool₁ → is_call (gave a dir₁ pool₁) × StoreLoses op dir pool clock key kind number text lifetime flags (gave a dir₁ pool₁)
   unfolding store_call
-  store_done a dir₁ pool₁ f p d =
-      losing (gave_passed (store_checks op dir pool clock key kind lifetime) (store_work op clock (item_of clock key kind number text lifetime flags)) dir pool a dir₁ pool₁ (sym p)
-      (subst (λ (z : ℤ). Does (store_work op clock (item_of clock key kind z text lifetime flags) (memory_of dir pool)) (length dir) a dir₁ pool₁) (to_z-of_z {w = w64} f) d))
-
-  -- the same store under its own name
-  pub same_store : {r : Result} → SFits w64 number → r ≡ store_call op dir pool clock key kind (to_z w64 (of_z w64 number)) text lifetime flags → is_call r × StoreLoses op dir pool clock key kind number text lifetime flags r
-  same_store f e = losing (e ∙ ap (λ (z : ℤ). store_call op dir pool clock key kind z text lifetime flags) (to_z-of_z {w = w64} f))
+  store_done a dir₁ pool₁ p d =
+      losing (gave_passed (store_checks op dir pool clock key kind lifetime) (store_work op clock (item_of clock key kind number text lifetime flags)) dir pool a dir₁ pool₁ (sym p) d)

@@ -1,5 +1,5 @@
 -- Placing anew, step by step: the choice, the rounds out, and the entry written.
-use Rattle.std.specs.Prelude.{◌≡◌, true, false, ◌&&◌, Err, Option, Some, None}
+use Rattle.std.specs.Prelude.{◌≡◌, refl, true, false, ◌&&◌, Err, Option, Some, None}
 use Rattle.std.proofs.Common.{sym, ◌∙◌, arith}
 use Rattle.std.proofs.Math.Path.{ap, subst}
 use mathlib.Core.List.{List, ◌∷◌}
@@ -13,20 +13,21 @@ use Rattle.rules.specs.Layout.{cells_of, encode, entries_of, put, Memory, memory
 use Rattle.rules.specs.Recency.{line, left, gone}
 use Rattle.rules.specs.Place.{held, Placed, run}
 use Rattle.rules.specs.Soundness.{sound}
+use Rattle.rules.specs.Answer.{plain}
 use Rattle.rules.specs.Calls.{Holds, Work, Does, Item, entry_for, need_for, place_at, searched, is_placed, if_room, evicted, forced_by, fit_outcome, place_fit, placed_by, place_anew}
 use Rattle.laws.specs.LayoutLaws.{put_then}
 use Rattle.laws.specs.RecencyLaws.{gone_left}
 use Rattle.laws.specs.PlaceLaws.{RanBy, run_ran}
 use Rattle.laws.specs.CellLaws.{held_reverse}
 use Rattle.laws.specs.LeastLossLaws.{after_rounds}
-use Rattle.laws.specs.CallsLaws.{room_ran, no_room}
+use Rattle.laws.specs.CallsLaws.{room_ran}
 use Rattle.laws.specs.Bytes.{FineItem}
 use Rattle.laws.specs.SoundMemory.{SoundMemory, few}
 use Rattle.laws.specs.Blocks.{sound_place}
 use Rattle.laws.specs.Keys.{clear_from}
-use Rattle.laws.specs.Buffers.{holds_memory, given_sound, given_memory, step_length, oldest_sound}
+use Rattle.laws.specs.Buffers.{holds_itself, holds_memory, given_sound, given_memory, step_length, oldest_sound}
 use Rattle.eviction.specs.declared.Choice.{Choice}
-use Rattle.eviction.specs.Choice.{Chosen}
+use Rattle.eviction.specs.Choice.{Chosen, start_of, ran_of, gone_of, live_of}
 use Rattle.storing.specs.Placing.{Fits}
 
 -- ---- the entry written
@@ -57,22 +58,22 @@ module _ (dir pool : List ℕ) (t : sound dir pool ≡ true) (item : Item) (star
 -- ---- the choice
 
 -- for a need that is told otherwise
-pub chosen_for : {clock P n n' most : ℕ} {es : List Entry} {r : Choice} → n ≡ n' → Chosen clock P n most es r → Chosen clock P n' most es r
+pub chosen_for : {clock P n n' most : ℕ} {es : List Entry} {r : Option Choice} → n ≡ n' → Chosen clock P n most es r → Chosen clock P n' most es r
 chosen_for {clock} {P} {n} {n'} {most} {es} {r} e c = subst (λ (k : ℕ). Chosen clock P k most es r) e c
 
 -- the rounds take entries of the line
-module _ (dir pool : List ℕ) (t : sound dir pool ≡ true) (clock most n : ℕ) (r : Choice) (c : Chosen clock (cells_of pool) n most (line (memory_of dir pool)) r) where
-  pub gone_within : r.gone ≤ length (entries_of dir)
+module _ (dir pool : List ℕ) (t : sound dir pool ≡ true) (clock most n : ℕ) (r : Option Choice) (c : Chosen clock (cells_of pool) n most (line (memory_of dir pool)) r) where
+  pub gone_within : gone_of r ≤ length (entries_of dir)
   unfolding memory_of
   gone_within =
       let es : List Entry = line (memory_of dir pool) in
       let k : ℕ = (if_room (run clock (cells_of pool) n most es)).ran in
       omega (arith, c.gone, ap length (gone_left clock k es), length-append (gone clock k es) (left clock k es), length-reverse (entries_of dir))
 
-  pub gone_few : r.gone ≤ 1024
+  pub gone_few : gone_of r ≤ 1024
   gone_few = omega (arith, gone_within, given_sound dir pool t)
 
-module _ (dir pool : List ℕ) (t : sound dir pool ≡ true) (clock most : ℕ) (item : Item) (r : Choice) (c : Chosen clock (cells_of pool) (need_for item) most (line (memory_of dir pool)) r) where
+module _ (dir pool : List ℕ) (t : sound dir pool ≡ true) (clock most : ℕ) (item : Item) (r : Option Choice) (c : Chosen clock (cells_of pool) (need_for item) most (line (memory_of dir pool)) r) where
   abbrev m : Memory
   m = memory_of dir pool
 
@@ -82,16 +83,16 @@ module _ (dir pool : List ℕ) (t : sound dir pool ≡ true) (clock most : ℕ) 
   abbrev p : Placed
   p = run clock (cells_of pool) (need_for item) most es
 
-  module _ {dir₁ pool₁ : List ℕ} (h : Holds (length dir) (remove_oldest r.gone m) dir₁ pool₁) where
+  module _ {dir₁ pool₁ : List ℕ} (h : Holds (length dir) (remove_oldest (gone_of r) m) dir₁ pool₁) where
     behind_length : length dir₁ ≡ length dir
-    behind_length = step_length dir pool t (oldest_sound dir pool t r.gone) h
+    behind_length = step_length dir pool t (oldest_sound dir pool t (gone_of r)) h
 
-    fits_by : (f : Option ℕ) (k start : ℕ) → RanBy clock (cells_of pool) (need_for item) most es f k → f ≡ Some start → r.gone ≡ length (gone clock k es) → Fits item start (memory_of dir₁ pool₁)
+    fits_by : (f : Option ℕ) (k start : ℕ) → RanBy clock (cells_of pool) (need_for item) most es f k → f ≡ Some start → gone_of r ≡ length (gone clock k es) → Fits item start (memory_of dir₁ pool₁)
     fits_by None k start ran e g = absurd (let z : ◌≡◌ {A = ℕ} 0 1 = cc in omega arith)
     fits_by (Some s) k start ran e g =
         let same : s ≡ start = cc in
         let mem : memory_of dir₁ pool₁ ≡ remove_oldest (length (gone clock k es)) m = holds_memory h ∙ ap (λ (n : ℕ). remove_oldest n m) g in
-        let cells : cells_of (memory_of dir₁ pool₁).pool ≡ cells_of pool = omega (arith, ap (λ (x : Memory). length x.pool) (holds_memory h), (oldest_sound dir pool t r.gone).pool_size) in
+        let cells : cells_of (memory_of dir₁ pool₁).pool ≡ cells_of pool = omega (arith, ap (λ (x : Memory). length x.pool) (holds_memory h), (oldest_sound dir pool t (gone_of r)).pool_size) in
         record {
           inside = omega (arith, ran.0.inside);
           free = λ j l.
@@ -100,28 +101,21 @@ module _ (dir pool : List ℕ) (t : sound dir pool ≡ true) (clock most : ℕ) 
               ∙ held_reverse (left clock k es) (start + j) (subst (λ (x : ℕ). held (left clock k es) (x + j) ≡ false) same (ran.0.frees j l));
         }
 
-    pub chosen_fits : (start : ℕ) → r.fit ≡ Some start → Fits item start (memory_of dir₁ pool₁)
+    pub chosen_fits : (start : ℕ) → start_of r ≡ Some start → Fits item start (memory_of dir₁ pool₁)
     chosen_fits start e =
         let f : p.fit ≡ Some start = sym c.fit ∙ e in
         fits_by p.fit p.ran start (run_ran clock (cells_of pool) (need_for item) most es) f (c.gone ∙ ap (λ (k : ℕ). length (gone clock k es)) (room_ran p f))
 
     -- the answer of a choice, with a fit of its own
     abbrev answered : Outcome → ℕ → Option ℕ → Answer
-    answered told swept f = record { rounds = r.ran; removed = swept + r.gone; forced = is_placed f && r.live; stale = false; outcome = fit_outcome told f }
+    answered told swept f = record { rounds = ran_of r; removed = swept + gone_of r; forced = is_placed f && live_of r; stale = false; outcome = fit_outcome told f }
 
-    work_is : (told : Outcome) (swept : ℕ) (f : Option ℕ) → r.fit ≡ f → record { answer = answered told swept f; memory = place_fit item f (remove_oldest r.gone m) } ≡ place_anew most clock item told swept m
+    work_is : (told : Outcome) (swept : ℕ) (f : Option ℕ) → start_of r ≡ f → record { answer = answered told swept f; memory = place_fit item f (remove_oldest (gone_of r) m) } ≡ place_anew most clock item told swept m
     unfolding place_anew searched if_room placed_by evicted forced_by memory_of
     work_is told swept f e = rw (sym e, c.fit, c.ran, c.gone, c.live)
 
-    -- no place: nothing is gone by rounds
-    pub refused_does : (told : Outcome) (swept : ℕ) (a : Answer) → r.fit ≡ None → a ≡ record { rounds = 0; removed = swept + r.gone; forced = false; stale = false; outcome = (Err NoMemory) } → Does (place_anew most clock item told swept m) (length dir) a dir₁ pool₁
-    unfolding fit_outcome place_fit is_placed
-    refused_does told swept a e q =
-        let z : r.ran ≡ 0 = c.ran ∙ no_room p (sym c.fit ∙ e) in
-        subst (λ (w : Work). Does w (length dir) a dir₁ pool₁) (work_is told swept None e) (record { answer = q ∙ rw z; memory = h })
-
     -- a place: the entry is stored there too
-    pub placed_does : (told : Outcome) (swept : ℕ) (a : Answer) (start : ℕ) {dir₂ pool₂ : List ℕ} → r.fit ≡ Some start → Holds (length dir₁) (place_at item start (memory_of dir₁ pool₁)) dir₂ pool₂ → a ≡ record { rounds = r.ran; removed = swept + r.gone; forced = r.live; stale = false; outcome = told } → Does (place_anew most clock item told swept m) (length dir) a dir₂ pool₂
+    pub placed_does : (told : Outcome) (swept : ℕ) (a : Answer) (start : ℕ) {dir₂ pool₂ : List ℕ} → start_of r ≡ Some start → Holds (length dir₁) (place_at item start (memory_of dir₁ pool₁)) dir₂ pool₂ → a ≡ record { rounds = ran_of r; removed = swept + gone_of r; forced = live_of r; stale = false; outcome = told } → Does (place_anew most clock item told swept m) (length dir) a dir₂ pool₂
     unfolding fit_outcome place_fit is_placed
     placed_does told swept a start {dir₂} {pool₂} e k q =
         subst (λ (w : Work). Does w (length dir) a dir₂ pool₂) (work_is told swept (Some start) e)
@@ -129,3 +123,11 @@ module _ (dir pool : List ℕ) (t : sound dir pool ≡ true) (clock most : ℕ) 
           answer = q;
           memory = subst (λ (x : Memory). Holds (length dir) (place_at item start x) dir₂ pool₂) (holds_memory h) (subst (λ (n : ℕ). Holds n (place_at item start (memory_of dir₁ pool₁)) dir₂ pool₂) behind_length k);
         })
+
+-- no place: nothing is gone by rounds
+pub none_does : (dir pool : List ℕ) (t : sound dir pool ≡ true) (clock most : ℕ) (item : Item) → Chosen clock (cells_of pool) (need_for item) most (line (memory_of dir pool)) None → (told : Outcome) (swept : ℕ) (a : Answer) → a ≡ plain (Err NoMemory) swept → Does (place_anew most clock item told swept (memory_of dir pool)) (length dir) a dir pool
+unfolding fit_outcome place_fit is_placed remove_oldest
+none_does dir pool t clock most item c told swept a q =
+    let h : Holds (length dir) (memory_of dir pool) dir pool = holds_itself dir pool (given_sound dir pool t).dir_is in
+    let z : swept + 0 ≡ swept = omega arith in
+    subst (λ (w : Work). Does w (length dir) a dir pool) (work_is dir pool t clock most item None c h told swept None refl) (record { answer = q ∙ rw z; memory = h })

@@ -19,6 +19,8 @@ use Rattle.laws.specs.Buffers.{does_is}
 use Rattle.eviction.specs.Swept.{Swept, behind_sweep}
 use Rattle.storing.specs.declared.Order.{Order}
 use Rattle.storing.specs.Order.{item_from, Storable}
+use Rattle.storing.specs.declared.Value.{Value}
+use Rattle.storing.specs.Given.{item_given}
 
 -- the sweep takes two at most
 pub swept_two : (clock : ℕ) (m : Memory) (n : ℕ) → n ≡ sweep_count clock m → n ≤ 2
@@ -35,23 +37,24 @@ most_few Replace = omega arith
 
 -- ---- the order
 
-module _ (op : Operation) (clock kind : ℕ) (number : ℤ) (text : List ℕ) (lifetime flags : ℕ) where
-  -- an order with these arguments, for a value of theirs
-  pub record Ordered (swept : ℕ) (o : Order) (value : List ℕ) : Type 0 where
-    pub of_expiry : o.expiry ≡ expiry_of clock lifetime
-    pub of_kind : o.kind ≡ kind
-    pub of_flags : o.flags ≡ flags
+module _ (op : Operation) (clock : ℕ) (key : List ℕ) (v : Value) where
+  -- an order of this value under this key
+  pub record Ordered (swept : ℕ) (o : Order) : Type 0 where
+    pub of_key : o.key.now ≡ key
+    pub of_bytes : o.bytes.now ≡ value_given v.kind v.number v.text.now
+    pub of_expiry : o.expiry ≡ expiry_of clock v.lifetime
+    pub of_kind : o.kind ≡ v.kind
+    pub of_flags : o.flags ≡ v.flags
     pub of_most : o.most ≡ most_rounds op
     pub of_told : o.told ≡ Done
     pub of_removed : o.removed ≡ swept
-    pub of_value : value ≡ value_given kind number text
 
-  module _ (key : List ℕ) {swept : ℕ} {o : Order} {value : List ℕ} (h : Ordered swept o value) where
-    item_is : item_from o key value ≡ item_of clock key kind number text lifetime flags
+  module _ {swept : ℕ} {o : Order} (h : Ordered swept o) where
+    item_is : item_from o ≡ item_given clock key v
     unfolding item_of
-    item_is = rw (h.of_expiry, h.of_kind, h.of_flags, h.of_value)
+    item_is = rw (h.of_expiry, h.of_kind, h.of_flags, h.of_key, h.of_bytes)
 
-    pub storable : FineItem (item_of clock key kind number text lifetime flags) → swept ≤ 2 → Storable o key value
+    pub storable : FineItem (item_given clock key v) → swept ≤ 2 → Storable o
     storable f s =
         record {
           item = subst FineItem (sym item_is) f;
@@ -60,11 +63,11 @@ module _ (op : Operation) (clock kind : ℕ) (number : ℤ) (text : List ℕ) (l
         }
 
     -- the work behind the sweep is the store's
-    pub ordered_does : (dir pool : List ℕ) → sound dir pool ≡ true → {dir₁ pool₁ dir₂ pool₂ : List ℕ} {a : Answer} → Swept clock dir pool swept dir₁ pool₁ → Does (store_found op clock (item_from o key value) o.removed (memory_of dir₁ pool₁) (look_up clock key (memory_of dir₁ pool₁))) (length dir₁) a dir₂ pool₂ → Does (store_work op clock (item_of clock key kind number text lifetime flags) (memory_of dir pool)) (length dir) a dir₂ pool₂
+    pub ordered_does : (dir pool : List ℕ) → sound dir pool ≡ true → {dir₁ pool₁ dir₂ pool₂ : List ℕ} {a : Answer} → Swept clock dir pool swept dir₁ pool₁ → Does (store_found op clock (item_from o) o.removed (memory_of dir₁ pool₁) (look_up clock o.key.now (memory_of dir₁ pool₁))) (length dir₁) a dir₂ pool₂ → Does (store_work op clock (item_given clock key v) (memory_of dir pool)) (length dir) a dir₂ pool₂
     unfolding store_work item_of
     ordered_does dir pool t {dir₁} {pool₁} s d =
-        let item : Item = item_of clock key kind number text lifetime flags in
-        let same : store_found op clock (item_from o key value) o.removed (memory_of dir₁ pool₁) (look_up clock key (memory_of dir₁ pool₁)) ≡ store_found op clock item swept (memory_of dir₁ pool₁) (look_up clock key (memory_of dir₁ pool₁)) = rw (item_is, h.of_removed) in
+        let item : Item = item_given clock key v in
+        let same : store_found op clock (item_from o) o.removed (memory_of dir₁ pool₁) (look_up clock o.key.now (memory_of dir₁ pool₁)) ≡ store_found op clock item swept (memory_of dir₁ pool₁) (look_up clock key (memory_of dir₁ pool₁)) = rw (item_is, h.of_removed, h.of_key) in
         behind_sweep clock dir pool t s (λ n m. store_found op clock item n m (look_up clock key m)) (does_is same d)
 
 -- ---- nil

@@ -1,23 +1,24 @@
--- `storing::admits` meets its contract. safe_add admits what add does.
-use mathlib.Core.Path.{sym, ap, ◌∙◌}
-use Rattle.rules.specs.declared.Operation.{Operation}
-use Rattle.storing.specs.StoreLaws.{admits_safe}
+-- `storing::admits` meets its contract.
+use Rattle.std.proofs.Common.{rules}
 use Rattle.rules.specs.Calls.{admits}
 use Rattle.storing.proofs.admits.Goals as goal
 
-pub returns-in-Set : goal.returns-in-Set
+pub returns-in-Add-Live : goal.returns-in-Add-Live
 unfolding admits
-returns-in-Set c = sym (ap (λ (o : Operation). admits o c.args.found) c.in-Set.is)
+returns-in-Add-Live c = search rules
 
-pub returns-in-SafeSet : goal.returns-in-SafeSet
+pub returns-in-Replace-Dead : goal.returns-in-Replace-Dead
 unfolding admits
-returns-in-SafeSet c = sym (ap (λ (o : Operation). admits o c.args.found) c.in-SafeSet.is)
+returns-in-Replace-Dead c = search rules
 
-pub returns-in-Add : goal.returns-in-Add
-returns-in-Add c = c.admits_add.ensures ∙ sym (ap (λ (o : Operation). admits o c.args.found) c.in-Add.is)
+pub returns-in_default : goal.returns-in_default
+unfolding admits
+returns-in_default c = search rules
 
-pub returns-in-SafeAdd : goal.returns-in-SafeAdd
-returns-in-SafeAdd c = c.admits_add-in-SafeAdd.ensures ∙ admits_safe c.args.found ∙ sym (ap (λ (o : Operation). admits o c.args.found) c.in-SafeAdd.is)
+pub returns-in_default-2 : goal.returns-in_default-2
+unfolding admits
+returns-in_default-2 c = search rules
 
-pub returns-in-Replace : goal.returns-in-Replace
-returns-in-Replace c = c.admits_replace.ensures ∙ sym (ap (λ (o : Operation). admits o c.args.found) c.in-Replace.is)
+pub returns-in_default-3 : goal.returns-in_default-3
+unfolding admits
+returns-in_default-3 c = search rules

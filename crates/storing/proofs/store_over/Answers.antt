@@ -15,12 +15,12 @@ remove-requires c = record { pool_value = c.requires.pool_value; i_in_bounds = o
 pub place_anew-requires : goal.place_anew-requires
 place_anew-requires c = record { pool_value = step_sound _ _ c.requires.pool_value (removed_sound _ _ c.requires.pool_value _) c.remove.ensures; storable = c.requires.storable }
 
-pub returns-then-old-value : goal.returns-then-old-value
-returns-then-old-value c = over_anew _ _ _ _ _ _ _ _ _ c.record_at-old.ensures c.requires.pool_value c.if-old-value.true c.remove.ensures c.place_anew.ensures
+pub returns-then-old-bytes : goal.returns-then-old-bytes
+returns-then-old-bytes c = over_anew _ _ _ _ _ _ _ _ _ c.record_at-old.ensures c.requires.pool_value c.if-old-bytes.true c.remove.ensures c.place_anew.ensures
 
 pub rewrite_at-requires : goal.rewrite_at-requires
-rewrite_at-requires c = record { pool_value = c.requires.pool_value; i_in_bounds = c.requires.i_in_bounds; value_len = sym c.if-old-value.false ∙ ap (λ e. e.vlen) c.record_at-old.ensures }
+rewrite_at-requires c = record { pool_value = c.requires.pool_value; i_in_bounds = c.requires.i_in_bounds; value_len = sym c.if-old-bytes.false ∙ ap (λ e. e.vlen) c.record_at-old.ensures }
 
 pub returns : goal.returns
 unfolding entry_for
-returns c = over_same _ _ _ _ _ _ _ _ _ c.record_at-old.ensures c.if-old-value.false c.rewrite_at.ensures c.plain.ensures
+returns c = over_same _ _ _ _ _ _ _ _ _ c.record_at-old.ensures c.if-old-bytes.false c.rewrite_at.ensures c.plain.ensures
