@@ -13,7 +13,6 @@ ghost use Rattle.counting.specs.Counting.{incr_at, Countable};
 
 use rules::{Answer, Check, Found, Initial, Outcome};
 use storing::Order;
-use values::Sum;
 
 // Adds the step to the live entry at i: not a number gives 10, a sum out of range 11, both before anything changes.
 fn incr_live(dir: &mut [u64], pool: &mut [u8], i: usize, step: i64, removed: usize) -> Answer
@@ -25,8 +24,7 @@ fn incr_live(dir: &mut [u64], pool: &mut [u8], i: usize, step: i64, removed: usi
     if e.kind != 3 {
         return Answer::plain(Outcome::NotNumber, removed);
     }
-    let sum = values::add(values::number_at(pool, e), step);
-    let Sum::Is(number) = sum else {
+    let Some(number) = values::add(values::number_at(pool, e), step) else {
         return Answer::plain(Outcome::SumTooLarge, removed); // nothing is stored
     };
     let bytes = values::number_bytes(number);
@@ -53,8 +51,7 @@ fn incr_initial(
     let Initial::Given { number, lifetime } = initial else {
         return Answer::plain(Outcome::NotFound, removed);
     };
-    let sum = values::add(number, step);
-    let Sum::Is(total) = sum else {
+    let Some(total) = values::add(number, step) else {
         return Answer::plain(Outcome::SumTooLarge, removed);
     };
     let bytes = values::number_bytes(total);
