@@ -6,9 +6,6 @@ use Rattle.std.proofs.Math.Bool.{true, cond}
 use Rattle.std.proofs.lemmas.Bool.{not-true, not-false}
 use Rattle.rules.specs.LookUp.{same}
 use Rattle.rules.specs.Replay.{LineCall, freshes, gets, deletes, unreadable, number_said, highest, fresh_word, get_word, delete_word, fresh_said, key_said, parts_say}
-use Rattle.decimals.specs.declared.Number.{Number}
-use Rattle.decimals.specs.declared.Number.TheVariants as N
-use Rattle.decimals.specs.Reading.{number}
 use Rattle.lines.specs.declared.Call.TheVariants.{Fresh, Get, Delete, Unreadable}
 use Rattle.lines.specs.Saying.{said, Inside, field, Means}
 
@@ -17,15 +14,9 @@ pub none : {line : List ℕ} {call : LineCall} → call ≡ unreadable → Means
 unfolding said Inside
 none e = record { is = sym e; within = omega arith }
 
--- what a field says, by the answer r of `read_field`
-module _ {r : Number} {s : Option ℕ} (e : number r ≡ s) where
-  pub number_is : {n : ℕ} → r ≡ N.Is n → s ≡ Some n
-  unfolding number
-  number_is i = sym e ∙ ap number i
-
-  pub number_none : r ≡ N.Unread → s ≡ None
-  unfolding number
-  number_none i = sym e ∙ ap number i
+-- what a field says, by the answer r
+pub said_is : {A : Type 0} {r s o : Option A} → r ≡ s → r ≡ o → s ≡ o
+said_is e i = sym e ∙ i
 
 -- ---- two fields
 

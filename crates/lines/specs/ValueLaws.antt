@@ -10,9 +10,6 @@ use Rattle.std.specs.Int.{w64}
 use Rattle.rules.specs.Replay.{number_said, weight_said, boolean_said, number_value, value_said}
 use Rattle.rules.specs.Replay as replay
 use Rattle.values.specs.Bits.{held, held_is}
-use Rattle.decimals.specs.declared.Weight.{Weight}
-use Rattle.decimals.specs.declared.Weight.TheVariants as W
-use Rattle.decimals.specs.Reading.{weight}
 use Rattle.decimals.specs.WeightLaws.{bits_plus}
 use Rattle.lines.specs.declared.Value.{Value}
 use Rattle.lines.specs.declared.Value.TheVariants.{Is, Unread}
@@ -44,19 +41,18 @@ module _ (f : List ℕ) {kind : ℕ} where
     unfolding boolean_said
     boolean_is {line} {n} e h = number_is (boolean (Some n) e) (bits_plus n (omega arith))
 
-  -- by the answer r of `read_weight`
-  module _ (k : kind ≡ 3) {r : Weight} (t : weight r ≡ weight_said f) where
-    weighed : (x : Weight) → r ≡ x → value_said kind f ≡ number_value (weight x)
+  module _ (k : kind ≡ 3) where
+    weighed : (o : Option ℤ) → weight_said f ≡ o → value_said kind f ≡ number_value o
     unfolding value_said
-    weighed x e = ap (λ (n : ℕ). value_said n f) k ∙ ap number_value (sym t ∙ ap weight e)
+    weighed o e = ap (λ (n : ℕ). value_said n f) k ∙ ap number_value e
 
-    pub weight_none : r ≡ W.Unread → value_said kind f ≡ None
-    unfolding number_value weight
-    weight_none e = weighed W.Unread e
+    pub weight_none : weight_said f ≡ None → value_said kind f ≡ None
+    unfolding number_value
+    weight_none e = weighed None e
 
-    pub weight_is : {line : List ℕ} {z : ℤ} → r ≡ W.Is z → mag z < 2 ^ 63 → Tells line (Is (held z) 0 0) (value_said kind f)
-    unfolding number_value weight
-    weight_is {line} {z} e h = number_is (weighed (W.Is z) e) (held_is h refl)
+    pub weight_is : {line : List ℕ} {z : ℤ} → weight_said f ≡ Some z → mag z < 2 ^ 63 → Tells line (Is (held z) 0 0) (value_said kind f)
+    unfolding number_value
+    weight_is {line} {z} e h = number_is (weighed (Some z) e) (held_is h refl)
 
   pub other_is : {line : List ℕ} → (kind ≡ 1 → ⊥) → (kind ≡ 3 → ⊥) → (kind ≡ 4 → ⊥) → Tells line (Is (pos 0) 0 0) (value_said kind f)
   unfolding value_said
