@@ -1,8 +1,8 @@
 -- What the code's answers say, in the terms of chapter "Replay lines".
-use Rattle.std.specs.Prelude.{◌≡◌, List, [], ◌∷◌, ℕ, ◌+◌, ◌-◌, ◌≤◌, length, drop}
+use Rattle.std.specs.Prelude.{◌≡◌, List, [], ◌∷◌, ℕ, ◌+◌, ◌-◌, ◌≤◌, length, drop, Option, Some, None}
 use Rattle.rules.specs.Layout.{part}
 use Rattle.scanning.specs.Until.{Until}
-use Rattle.rules.specs.Replay.{LineCall, freshes, sets, gets, deletes, unreadable, Said, says, unread, number_said, kind_said, parts_of, parts_say}
+use Rattle.rules.specs.Replay.{LineCall, freshes, sets, gets, deletes, unreadable, number_said, kind_said, parts_of, parts_say}
 use Rattle.rules.specs.Replay as replay
 use Rattle.lines.specs.declared.Call.{Call}
 use Rattle.lines.specs.declared.Call.TheVariants.{Fresh, Set, Get, Delete, Unreadable}
@@ -54,15 +54,15 @@ pub record Means (line : List ℕ) (r : Call) (call : LineCall) : Type 0 where
   pub within : Inside line r
 
 -- what a value's field says: a number, and a text that stands in the line
-unfoldable pub value : List ℕ → Value → Said replay.Value
-value line (Is number text end) = says (record { number = number; text = field line text end })
-value line Unread = unread
+unfoldable pub value : List ℕ → Value → Option replay.Value
+value line (Is number text end) = Some (record { number = number; text = field line text end })
+value line Unread = None
 
 unfoldable pub ValueInside : List ℕ → Value → Type 0
 ValueInside line (Is number text end) = (text ≤ end) × (end ≤ length line)
 ValueInside line Unread = 0 ≤ length line
 
-pub record Tells (line : List ℕ) (r : Value) (v : Said replay.Value) : Type 0 where
+pub record Tells (line : List ℕ) (r : Value) (v : Option replay.Value) : Type 0 where
   pub is : value line r ≡ v
   pub within : ValueInside line r
 

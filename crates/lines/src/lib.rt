@@ -3,12 +3,7 @@
 
 ghost use Rattle.std.specs.Prelude.{◌≡◌, ◌≤◌, ◌<◌, length};
 ghost use Rattle.rules.specs.Replay.{number_said, value_said, call_of};
-ghost use Rattle.decimals.specs.Reading.{number};
 ghost use Rattle.lines.specs.Saying.{said, Inside, field, two_fields, three_fields, more_fields, set_fields, Means, Tells, FieldEnd};
-
-use decimals::{Number, Weight};
-
-const TOP: u64 = 18446744073709551615;
 
 // A call that a line makes. Keys and texts stand in the line, from a first byte to behind a last one; the key of a get or delete ends with the line.
 #[derive(Clone, Copy)]
@@ -54,9 +49,9 @@ fn field_end(line: &[u8], from: usize) -> usize
 }
 
 // The number that a field says, from 0 to `most`.
-fn read_field(line: &[u8], from: usize, end: usize, most: u64) -> Number
+fn read_field(line: &[u8], from: usize, end: usize, most: u64) -> Option<u64>
     requires { (from ≤ end) × (end ≤ length line.now) }
-    ensures { number result ≡ number_said most (field line.now from end) }
+    ensures { result ≡ number_said most (field line.now from end) }
 {
     decimals::read_number(&line[from..end], most)
 }
@@ -69,7 +64,7 @@ fn read_fresh(line: &[u8], a: usize) -> Call
     if !words::equal(&line[0..a], b"fresh") {
         return Call::Unreadable;
     }
-    let Number::Is(p) = read_field(line, a + 1, line.len(), 1024) else {
+    let Some(p) = read_field(line, a + 1, line.len(), 1024) else {
         return Call::Unreadable;
     };
     if p == 0 {
@@ -83,7 +78,7 @@ fn read_key(line: &[u8], a: usize, b: usize) -> Call
     requires { (a < b) × (b < length line.now) }
     ensures { Means line.now result (three_fields line.now a b) }
 {
-    let Number::Is(clock) = read_field(line, 0, a, TOP) else {
+    let Some(clock) = read_field(line, 0, a, u64::MAX) else {
         return Call::Unreadable;
     };
     let word = a + 1;
@@ -102,13 +97,13 @@ fn read_value(line: &[u8], from: usize, end: usize, kind: u64) -> Value
     ensures { Tells line.now result (value_said kind (field line.now from end)) }
 {
     if kind == 1 {
-        let Number::Is(n) = read_field(line, from, end, 1) else {
+        let Some(n) = read_field(line, from, end, 1) else {
             return Value::Unread;
         };
         return Value::Is(n as i64, 0, 0);
     }
     if kind == 3 {
-        let Weight::Is(n) = decimals::read_weight(&line[from..end]) else {
+        let Some(n) = decimals::read_weight(&line[from..end]) else {
             return Value::Unread;
         };
         return Value::Is(n, 0, 0);
@@ -124,19 +119,19 @@ fn read_set(line: &[u8], a: usize, b: usize, c: usize, d: usize, e: usize, f: us
     requires { (a < b) × (b < c) × (c < d) × (d < e) × (e < f) × (f < length line.now) }
     ensures { Means line.now result (set_fields line.now a b c d e f) }
 {
-    let Number::Is(kind) = read_field(line, c + 1, d, 255) else {
+    let Some(kind) = read_field(line, c + 1, d, 255) else {
         return Call::Unreadable;
     };
-    let Number::Is(clock) = read_field(line, 0, a, TOP) else {
+    let Some(clock) = read_field(line, 0, a, u64::MAX) else {
         return Call::Unreadable;
     };
     let Value::Is(number, text, text_end) = read_value(line, d + 1, e, kind) else {
         return Call::Unreadable;
     };
-    let Number::Is(lifetime) = read_field(line, e + 1, f, TOP) else {
+    let Some(lifetime) = read_field(line, e + 1, f, u64::MAX) else {
         return Call::Unreadable;
     };
-    let Number::Is(flags) = read_field(line, f + 1, line.len(), 4294967295) else {
+    let Some(flags) = read_field(line, f + 1, line.len(), 4294967295) else {
         return Call::Unreadable;
     };
     Call::Set {
