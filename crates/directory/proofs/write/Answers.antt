@@ -1,23 +1,14 @@
 -- `directory::write` meets its contract.
-use native.Mathlib.Omega.{arith}
-use lib.ListN.{length-set}
-use Rattle.words.specs.PutLaws.{put_six}
+use Rattle.std.proofs.Common.{◌≡◌, sym, List, ℕ, ◌+◌, length, take, drop, append_assoc, arith}
+use Rattle.std.proofs.lemmas.List.{drop-drop}
+use borrow.Rule.Slice.PartMut.{put_mid}
+use Rattle.rules.specs.Layout.{put}
 use Rattle.directory.proofs.write.Goals as goal
 
-pub bounds-dir-p-2 : goal.bounds-dir-p-2
-bounds-dir-p-2 c = simp length-set (omega arith)
-
-pub bounds-dir-p-3 : goal.bounds-dir-p-3
-bounds-dir-p-3 c = simp length-set (omega arith)
-
-pub bounds-dir-p-4 : goal.bounds-dir-p-4
-bounds-dir-p-4 c = simp length-set (omega arith)
-
-pub bounds-dir-p-5 : goal.bounds-dir-p-5
-bounds-dir-p-5 c = simp length-set (omega arith)
-
-pub bounds-dir-p-6 : goal.bounds-dir-p-6
-bounds-dir-p-6 c = simp length-set (omega arith)
+-- a part of d overwritten
+put_is : (d s part : List ℕ) (at k : ℕ) → part ≡ s → k ≡ length s → put_mid at k d part ≡ put d at s
+unfolding put
+put_is d s part at k e l = rw (e, l, drop-drop) (sym (append_assoc (take at d) s (drop (at + length s) d)))
 
 pub returns : goal.returns
-returns c = put_six _ _ _ _ _ _ _ _ (omega arith)
+returns c = put_is _ _ _ _ _ c.copy_from_slice.ensures.after (omega arith)
