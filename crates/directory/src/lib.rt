@@ -27,7 +27,12 @@ pub fn write(dir: &mut [u64], p: usize, e: Entry)
     requires { p + 6 ≤ length dir.old }
     ensures { dir.new ≡ put dir.old p (words e) }
 {
-    dir[p..p + 6].copy_from_slice(&[e.expiry, e.kind, e.flags, e.start, e.klen, e.vlen]);
+    dir[p] = e.expiry;
+    dir[p + 1] = e.kind;
+    dir[p + 2] = e.flags;
+    dir[p + 3] = e.start;
+    dir[p + 4] = e.klen;
+    dir[p + 5] = e.vlen;
 }
 
 // The number of entries.
