@@ -1,12 +1,13 @@
 -- Entries chained by the bucket of their key: a link leads to the next entry whose key may be the same, and at the end of a chain past the last entry.
 use Rattle.std.specs.Prelude.{◌≡◌, ℕ, ◌+◌, ◌-◌, ◌*◌, ◌%◌, ◌<◌, ◌≤◌, Bool, true, false, List, length, drop, replicate, ◌≢◌, slice_index, slice_index_or, slice_set, refl}
-use Rattle.std.proofs.Common.{sym, ap, ◌∙◌, arith, length-set, get_or-set_same, get_or-set_other}
+use Rattle.std.proofs.Common.{sym, ap, ◌∙◌, arith, length-set, get_or-set_same, get_or-set_other, length-take}
 use Rattle.std.proofs.Math.Decide.{ℕ_discrete}
 use Rattle.std.proofs.lemmas.List.{length-replicate, get_or-replicate}
 use Rattle.rules.specs.declared.Entry.{Entry}
 use Rattle.rules.specs.Layout.{entries_of, none, part, key_of}
 use Rattle.rules.specs.LookUp.{same, key_is}
-use Rattle.rules.specs.Soundness.{any}
+use Rattle.rules.specs.Soundness.{any, sound}
+use Rattle.laws.specs.Buffers.{entry_fine}
 use Rattle.laws.specs.Tests.{any_here, any_more, any_end}
 use Rattle.laws.specs.Booleans.{no_true}
 use Rattle.laws.specs.Finding.{same_is}
@@ -25,6 +26,10 @@ unfolding key_of
 key_part_is dir pool i e x =
     let l : 32 * e.start + e.klen - 32 * e.start ≡ e.klen = omega arith in
     ap (part pool (32 * e.start)) l ∙ ap (λ (f : Entry). part pool (32 * f.start) f.klen) x
+
+pub key_short : (dir pool : List ℕ) (i : ℕ) → sound dir pool ≡ true → i < length (entries_of dir) → length (key_at dir pool i) ≤ 65535
+unfolding key_of
+key_short dir pool i t h = let e = slice_index_or (entries_of dir) i none in omega (arith, length-take e.klen (drop (32 * e.start) pool), (entry_fine dir pool t i h _ refl).short_key)
 
 -- its bucket
 abbrev pub bucket_at : List ℕ → List ℕ → ℕ → ℕ

@@ -1,9 +1,6 @@
 -- The bucket of a key: any function of its bytes would do, since keys are compared in the end. This one is fast, and spreads keys that differ in a few digits.
-use Rattle.std.specs.Prelude.{◌≡◌, ℕ, suc, ◌+◌, ◌*◌, ◌/◌, ◌%◌, ◌<◌, ◌≤◌, List, [], ◌∷◌, length, take, drop, slice_index, get_or, zero, refl}
-use Rattle.std.proofs.Common.{sym, ap, ◌∙◌, arith, length-drop, get_or-drop, length-take-le, drop_of_length-le, drop-cons}
-use Rattle.std.specs.Int.{w32, from_le_bytes}
-use Rattle.std.specs.Simd.{first_chunks}
-use Rattle.std.proofs.lemmas.List.{drop-drop}
+use Rattle.std.specs.Prelude.{◌≡◌, ℕ, suc, ◌+◌, ◌*◌, ◌/◌, ◌%◌, ◌<◌, ◌≤◌, List, [], ◌∷◌, length, drop, slice_index, refl}
+use Rattle.std.proofs.Common.{sym, ap, ◌∙◌, arith, length-drop, drop_of_length-le, drop-cons}
 use Rattle.rules.specs.Layout.{part, value_of}
 use Rattle.laws.specs.NumberLaws.{part_four}
 
@@ -34,9 +31,9 @@ drop_one : (key : List ℕ) (i j : ℕ) → i < length key → j ≡ i + 1 → d
 drop_one key i j l e = let s : suc i ≡ j = omega arith in drop-cons key i 0 l ∙ ap (λ (k : ℕ). slice_index key i ∷ drop k key) s
 
 -- four bytes more
-hashed_four : {key : List ℕ} {i h w : ℕ} → Hashed key i h → i + 4 ≤ length key → w ≡ value_of (part key i 4) → Hashed key (i + 4) ((31 * h + w) % 4294967296)
+pub hashed_word : {key : List ℕ} {i h w : ℕ} → Hashed key i h → i + 4 ≤ length key → w ≡ value_of (part key i 4) → Hashed key (i + 4) ((31 * h + w) % 4294967296)
 unfolding hash_from
-hashed_four {key} {i} {h} {w} d l e =
+hashed_word {key} {i} {h} {w} d l e =
     let four : drop i key ≡ slice_index key i ∷ slice_index key (i + 1) ∷ slice_index key (i + 2) ∷ slice_index key (i + 3) ∷ drop (i + 4) key =
     drop_one key i (i + 1) (omega arith) (omega arith)
     ∙ ap (λ (r : List ℕ). slice_index key i ∷ r) (drop_one key (i + 1) (i + 2) (omega arith) (omega arith))
@@ -47,30 +44,6 @@ hashed_four {key} {i} {h} {w} d l e =
       rest = d.rest ∙ ap (hash_from h) four ∙ ap (λ (x : ℕ). hash_from (with h x) (drop (i + 4) key)) (sym (e ∙ ap value_of (part_four key i l)));
     }
 
--- the words are those of the key, one after the other
-word_at : (n k i : ℕ) (xs d : List ℕ) → i < k → get_or (first_chunks n k xs) i d ≡ take n (drop (i * n) xs)
-word_at n zero i xs d h = absurd (omega arith)
-word_at n (suc k) zero xs d h = let z : 0 ≡ 0 * n = omega arith in ap (λ (m : ℕ). take n (drop m xs)) z
-word_at n (suc k) (suc i) xs d h =
-    let m : n + i * n ≡ suc i * n = omega arith in
-    word_at n k i (drop n xs) d (omega arith) ∙ ap (take n) (drop-drop (i * n) n xs ∙ ap (λ (j : ℕ). drop j xs) m)
-
-as_read : (l : List ℕ) → length l ≡ 4 → from_le_bytes w32 l ≡ value_of l
-as_read [] h = absurd (omega arith)
-as_read (a ∷ []) h = absurd (omega arith)
-as_read (a ∷ b ∷ []) h = absurd (omega arith)
-as_read (a ∷ b ∷ c ∷ []) h = absurd (omega arith)
-as_read (a ∷ b ∷ c ∷ d ∷ []) h = omega arith
-as_read (a ∷ b ∷ c ∷ d ∷ e ∷ l) h = absurd (omega arith)
-
-pub hashed_word : {key word : List ℕ} {words : List (List ℕ)} {h w : ℕ} (i : ℕ) → Hashed key (4 * i) h → words ≡ first_chunks 4 (length key / 4) key → i < length key / 4 → word ≡ get_or words i [] → w ≡ from_le_bytes w32 word → Hashed key (4 * (i + 1)) ((31 * h + w) % 4294967296)
-hashed_word {key} {word} {words} {h} {w} i d f l x e =
-    let four : i * 4 ≡ 4 * i = omega arith in
-    let is : word ≡ part key (4 * i) 4 = x ∙ rw f (word_at 4 (length key / 4) i key [] l) ∙ ap (λ (j : ℕ). part key j 4) four in
-    let more : 4 * i + 4 ≡ 4 * (i + 1) = omega arith in
-    let told : Hashed key (4 * i + 4) ((31 * h + w) % 4294967296) = hashed_four d (omega arith) (e ∙ ap (from_le_bytes w32) is ∙ as_read (part key (4 * i) 4) (length-take-le 4 (drop (4 * i) key) (omega (arith, length-drop (4 * i) key)))) in
-    rw more at told
-
 -- one byte more, of the last three
 last : (h a : ℕ) (l : List ℕ) → length l < 3 → hash_from h (a ∷ l) ≡ hash_from (with h a) l
 unfolding hash_from
@@ -79,21 +52,14 @@ last h a (b ∷ []) n = refl
 last h a (b ∷ c ∷ []) n = refl
 last h a (b ∷ c ∷ d ∷ l) n = absurd (omega arith)
 
-hashed_one : {key : List ℕ} {i h b : ℕ} → Hashed key i h → i < length key → length key < i + 4 → b ≡ slice_index key i → Hashed key (i + 1) ((31 * h + b) % 4294967296)
-hashed_one {key} {i} {h} {b} d l n e =
+pub hashed_byte : {key : List ℕ} {i h b : ℕ} → Hashed key i h → i < length key → length key < i + 4 → b ≡ slice_index key i → Hashed key (i + 1) ((31 * h + b) % 4294967296)
+hashed_byte {key} {i} {h} {b} d l n e =
     record {
       small = omega arith;
       rest = d.rest ∙ ap (hash_from h) (drop_one key i (i + 1) l refl)
           ∙ last h (slice_index key i) (drop (i + 1) key) (omega (arith, length-drop (i + 1) key))
           ∙ ap (λ (x : ℕ). hash_from (with h x) (drop (i + 1) key)) (sym e);
     }
-
-pub hashed_byte : {key rest : List ℕ} {h b : ℕ} (k : ℕ) → Hashed key (length key / 4 * 4 + k) h → rest ≡ drop (length key / 4 * 4) key → k < length key % 4 → b ≡ slice_index rest k → Hashed key (length key / 4 * 4 + (k + 1)) ((31 * h + b) % 4294967296)
-hashed_byte {key} {rest} {h} {b} k d f l e =
-    let at : ℕ = length key / 4 * 4 in
-    let next : at + k + 1 ≡ at + (k + 1) = omega arith in
-    let told : Hashed key (at + k + 1) ((31 * h + b) % 4294967296) = hashed_one d (omega arith) (omega arith) (e ∙ ap (λ (r : List ℕ). slice_index r k) f ∙ get_or-drop at key k 0) in
-    rw next at told
 
 pub hashed_done : {key : List ℕ} {i h : ℕ} → Hashed key i h → length key ≤ i → 2654435761 * h / 2097152 % 2048 ≡ bucket_of key
 unfolding hash_from bucket_of

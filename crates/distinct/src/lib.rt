@@ -16,15 +16,18 @@ fn link(x: u16) -> usize
 
 // The bucket of a key: one of 2,048, by a hash of all its bytes, four at a time.
 fn bucket(key: &[u8]) -> usize
+    requires { length key.now ≤ 65535 }
     ensures { (result ≡ bucket_of key.now) × (result < 2048) }
 {
-    let (words, rest) = key.as_chunks::<4>();
     let mut h: u64 = 0;
-    for &word in words {
-        h = (31 * h + u64::from(u32::from_le_bytes(word))) % 4294967296;
+    let mut i = 0;
+    while i + 4 <= key.len() {
+        h = (31 * h + words::load4(key, i)) % 4294967296;
+        i += 4;
     }
-    for &byte in rest {
-        h = (31 * h + u64::from(byte)) % 4294967296;
+    while i < key.len() {
+        h = (31 * h + words::wide(key[i])) % 4294967296;
+        i += 1;
     }
     (2654435761 * h / 2097152 % 2048) as usize
 }
