@@ -81,8 +81,7 @@ pub fn push_front(dir: &mut [u64], e: Entry)
 {
     let n = dir[1];
     dir[1] = n + 1;
-    let end = 2 + 6 * (n as usize);
-    words::move_up(dir, 2, 6, end - 2);
+    words::move_up(dir, 2, 6, 6 * n as usize);
     write(dir, 2, e); // in front
 }
 
@@ -111,10 +110,7 @@ pub fn expire_all(dir: &mut [u64], expiry: u64)
     requires { Dir dir.old }
     ensures { dir.new ≡ encode (length dir.old) (map (with_expiry expiry) (entries_of dir.old)) }
 {
-    let end = 2 + 6 * dir[1] as usize;
-    let mut p: usize = 2;
-    while p < end {
-        dir[p] = expiry;
-        p += 6;
+    for i in 0..count(dir) {
+        dir[2 + 6 * i] = expiry;
     }
 }

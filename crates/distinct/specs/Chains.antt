@@ -1,12 +1,13 @@
 -- Entries chained by the bucket of their key: a link leads to the next entry whose key may be the same, and at the end of a chain past the last entry.
 use Rattle.std.specs.Prelude.{◌≡◌, ℕ, ◌+◌, ◌-◌, ◌*◌, ◌%◌, ◌<◌, ◌≤◌, Bool, true, false, List, length, drop, replicate, ◌≢◌, slice_index, slice_index_or, slice_set, refl}
-use Rattle.std.proofs.Common.{sym, ap, ◌∙◌, arith, length-set, get_or-set_same, get_or-set_other}
+use Rattle.std.proofs.Common.{sym, ap, ◌∙◌, arith, length-set, get_or-set_same, get_or-set_other, length-take}
 use Rattle.std.proofs.Math.Decide.{ℕ_discrete}
 use Rattle.std.proofs.lemmas.List.{length-replicate, get_or-replicate}
 use Rattle.rules.specs.declared.Entry.{Entry}
 use Rattle.rules.specs.Layout.{entries_of, none, part, key_of}
-use Rattle.rules.specs.LookUp.{key_is}
-use Rattle.rules.specs.Soundness.{any}
+use Rattle.rules.specs.LookUp.{same, key_is}
+use Rattle.rules.specs.Soundness.{any, sound}
+use Rattle.laws.specs.Buffers.{entry_fine}
 use Rattle.laws.specs.Tests.{any_here, any_more, any_end}
 use Rattle.laws.specs.Booleans.{no_true}
 use Rattle.laws.specs.Finding.{same_is}
@@ -25,6 +26,10 @@ unfolding key_of
 key_part_is dir pool i e x =
     let l : 32 * e.start + e.klen - 32 * e.start ≡ e.klen = omega arith in
     ap (part pool (32 * e.start)) l ∙ ap (λ (f : Entry). part pool (32 * f.start) f.klen) x
+
+pub key_short : (dir pool : List ℕ) (i : ℕ) → sound dir pool ≡ true → i < length (entries_of dir) → length (key_at dir pool i) ≤ 65535
+unfolding key_of
+key_short dir pool i t h = let e = slice_index_or (entries_of dir) i none in omega (arith, length-take e.klen (drop (32 * e.start) pool), (entry_fine dir pool t i h _ refl).short_key)
 
 -- its bucket
 abbrev pub bucket_at : List ℕ → List ℕ → ℕ → ℕ
@@ -85,18 +90,19 @@ pub record Walked (dir pool : List ℕ) (i v : ℕ) : Type 0 where
 pub walked_none : {dir pool : List ℕ} {i v : ℕ} → Link dir pool (bucket_at dir pool i) (i + 1) v → Walked dir pool i v
 walked_none {dir} {pool} {i} l = record { ahead = omega (arith, l.ahead); rest = l.skips (key_at dir pool i) refl; inside = l.inside }
 
--- e and f are the entries at i and v, as they were read
-module _ {dir pool : List ℕ} {i v : ℕ} (e f : Entry) (x : e ≡ slice_index_or (entries_of dir) i none) (y : f ≡ slice_index_or (entries_of dir) v none) (h : v < length (entries_of dir)) (w : Walked dir pool i v) where
+-- a and b are the keys of the entries at v and i
+module _ {dir pool a b : List ℕ} {i v : ℕ} (x : a ≡ key_at dir pool v) (y : b ≡ key_at dir pool i) (h : v < length (entries_of dir)) (w : Walked dir pool i v) where
   abbrev key : List ℕ
   key = key_at dir pool i
 
-  met : key_is pool key (slice_index_or (entries_of dir) v none) ≡ key_is pool (key_part pool e) f
-  met = ap (key_is pool key) (sym y) ∙ ap (λ (l : List ℕ). key_is pool l f) (sym (key_part_is dir pool i e x))
+  met : key_is pool key (slice_index_or (entries_of dir) v none) ≡ same a b
+  unfolding key_is
+  met = sym (rw (x, y) refl)
 
-  pub walked_here : key_is pool (key_part pool e) f ≡ true → true ≡ under dir pool key (i + 1)
+  pub walked_here : same a b ≡ true → true ≡ under dir pool key (i + 1)
   walked_here t = sym (w.rest ∙ any_here (key_is pool key) (entries_of dir) v none h (met ∙ t))
 
-  pub walked_more : {v' : ℕ} → key_is pool (key_part pool e) f ≡ false → Link dir pool (bucket_at dir pool v) (v + 1) v' → Walked dir pool i v'
+  pub walked_more : {v' : ℕ} → same a b ≡ false → Link dir pool (bucket_at dir pool v) (v + 1) v' → Walked dir pool i v'
   walked_more t l =
       record {
         ahead = omega (arith, w.ahead, l.ahead);

@@ -11,7 +11,7 @@ ghost use Rattle.distinct.specs.Chains.{link_of, key_at, bucket_at, under, Link,
 fn link(x: u16) -> usize
     ensures { result ≡ link_of x }
 {
-    std::num::wrapping_sub_u16(x, 1) as usize
+    x.wrapping_sub(1) as usize
 }
 
 // The bucket of a key: one of 2,048, by a hash of all its bytes, four at a time.
@@ -32,16 +32,24 @@ fn bucket(key: &[u8]) -> usize
     (2654435761 * h / 2097152 % 2048) as usize
 }
 
+// The key of the entry at i, a part of the pool.
+fn key_at<'a>(dir: &[u64], pool: &'a [u8], i: usize) -> &'a [u8]
+    requires pool_value { sound dir.now pool.now ≡ true }
+    requires i_in_bounds { i < length (entries_of dir.now) }
+    ensures { result.now ≡ key_at dir.now pool.now i }
+{
+    let e = directory::record_at(dir, i);
+    let at = 32 * e.start as usize;
+    &pool[at..at + e.klen as usize]
+}
+
 // The bucket of the key of the entry at i.
 fn bucket_at(dir: &[u64], pool: &[u8], i: usize) -> usize
     requires pool_value { sound dir.now pool.now ≡ true }
     requires i_in_bounds { i < length (entries_of dir.now) }
     ensures { (result ≡ bucket_at dir.now pool.now i) × (result < 2048) }
 {
-    let e = directory::record_at(dir, i);
-    let at = 32 * e.start as usize;
-    let end = at + e.klen as usize;
-    bucket(&pool[at..end])
+    bucket(key_at(dir, pool, i))
 }
 
 // An entry behind that at i has its key. Only those of its bucket are looked at: `first`, and from there by the links.
@@ -53,12 +61,10 @@ fn key_again(dir: &[u64], pool: &[u8], table: &[u16], i: usize, first: usize) ->
     ensures { result ≡ under dir.now pool.now (key_at dir.now pool.now i) (i + 1) }
 {
     let n = directory::count(dir);
-    let e = directory::record_at(dir, i);
-    let at = 32 * e.start as usize;
-    let end = at + e.klen as usize;
+    let key = key_at(dir, pool, i);
     let mut j = first;
     while j < n {
-        if values::key_is(pool, directory::record_at(dir, j), &pool[at..end]) {
+        if words::equal(key_at(dir, pool, j), key) {
             return true;
         }
         j = link(table[2048 + j]);
@@ -72,9 +78,7 @@ fn differ(table: &mut [u16], dir: &[u64], pool: &[u8]) -> bool
     requires table_value { table.old ≡ replicate 3072 0 }
     ensures { result ≡ keys_differ pool.now (entries_of dir.now) }
 {
-    let mut i = directory::count(dir);
-    while 0 < i {
-        i -= 1;
+    for i in (0..directory::count(dir)).rev() {
         let b = bucket_at(dir, pool, i);
         let first = table[b];
         if key_again(dir, pool, table, i, link(first)) {

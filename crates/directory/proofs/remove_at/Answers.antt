@@ -1,12 +1,7 @@
 -- `directory::remove_at` meets its contract.
 use mathlib.Core.Path.{◌∙◌}
-use native.Mathlib.Omega.{arith}
-use lib.ListN.{length-set}
 use Rattle.directory.specs.Changes.{removed}
 use Rattle.directory.proofs.remove_at.Goals as goal
-
-pub close_gap-requires : goal.close_gap-requires
-close_gap-requires c = simp length-set (omega arith)
 
 pub returns : goal.returns
 returns c = c.close_gap.ensures ∙ removed c.args.dir.now c.args.i c.requires.dir c.requires.i_in_bounds

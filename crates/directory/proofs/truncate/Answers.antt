@@ -1,12 +1,7 @@
 -- `directory::truncate` meets its contract.
 use mathlib.Core.Path.{◌∙◌}
-use native.Mathlib.Omega.{arith}
-use lib.ListN.{length-set}
 use Rattle.directory.specs.Changes.{truncated}
 use Rattle.directory.proofs.truncate.Goals as goal
-
-pub clear-requires : goal.clear-requires
-clear-requires c = simp length-set (omega arith)
 
 pub returns : goal.returns
 returns c = c.clear.ensures ∙ truncated c.args.dir.now c.args.k c.requires.dir c.requires.k_in_bounds

@@ -1,9 +1,6 @@
--- `soundness::entries_sound` meets its contract.
+-- `soundness::entries_sound` meets its contract. The loop's invariant: the map has the cells of the entries from i on.
 use Rattle.soundness.specs.Walk.{Walk}
 use Rattle.soundness.proofs.entries_sound.Given as goal
 
-abbrev pub invariant-loop-p : goal.invariant-loop-p
-invariant-loop-p l = Walk l.dir l.pool l.p l.map
-
-abbrev pub decreases-loop-p : goal.decreases-loop-p
-decreases-loop-p l = l.p
+abbrev pub invariant-loop-i : goal.invariant-loop-i
+invariant-loop-i l = Walk l.dir l.pool l.i l.map

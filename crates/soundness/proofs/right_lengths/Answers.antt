@@ -1,16 +1,14 @@
 -- `soundness::right_lengths` meets its contract.
-use Rattle.soundness.specs.Test.{lengths_not, lengths_last}
-use native.Mathlib.Omega.{arith}
+use Rattle.std.proofs.Common.{arith}
+use Rattle.std.proofs.lemmas.Bool.Decides.{nat_tests}
+use Rattle.rules.specs.Soundness.{right_lengths}
 use Rattle.soundness.proofs.right_lengths.Goals as goal
+use Rattle.soundness.proofs.right_lengths.Goals.{then-pool-cells, else-pool-cells}
 
-pub returns-then-pool-cells : goal.returns-then-pool-cells
-returns-then-pool-cells c = lengths_not _ _ (λ l. c.if-pool-cells.true l.pool_size)
+pub returns-then-contains : goal.returns-then-contains
+unfolding right_lengths
+returns-then-contains c = elim c.if-pool-cells.branch [ then-pool-cells w ↦ grind (arith, nat_tests) | else-pool-cells w ↦ grind (arith, nat_tests) ]
 
-pub returns-then-cells-lt1 : goal.returns-then-cells-lt1
-returns-then-cells-lt1 c = lengths_not _ _ (λ l. omega (arith, l.some_cell))
-
-pub returns-then-cells-gt1024 : goal.returns-then-cells-gt1024
-returns-then-cells-gt1024 c = lengths_not _ _ (λ l. omega (arith, l.few_cells))
-
-pub returns : goal.returns
-returns c = lengths_last _ _ c.if-pool-cells.false c.if-cells-lt1.false c.if-cells-gt1024.false
+pub returns-else-contains : goal.returns-else-contains
+unfolding right_lengths
+returns-else-contains c = elim c.if-pool-cells.branch [ then-pool-cells w ↦ grind (arith, nat_tests) | else-pool-cells w ↦ grind (arith, nat_tests) ]
