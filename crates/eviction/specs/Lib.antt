@@ -7,3 +7,4 @@ pub mod Scratch
 pub mod Sweeping
 pub mod Turns
 pub mod Swept
+pub mod Filled

@@ -66,18 +66,6 @@ fn next_turn(turn: Turn, dead: bool) -> Turn
     }
 }
 
-// Writes the mark into the cells from `start` up to `end`.
-fn mark_from(marks: &mut [u8], start: usize, end: usize, mark: u8)
-    requires { (start ≤ end) × (end ≤ length marks.old) }
-    ensures { Written marks.old marks.new start end mark }
-{
-    let mut c = start;
-    while c < end {
-        marks[c] = mark;
-        c += 1;
-    }
-}
-
 // Writes the mark into the cells of an entry of `size` bytes. Most entries have one.
 fn mark_entry(marks: &mut [u8], start: usize, size: usize, mark: u8)
     requires { (0 < size) × (length marks.old ≤ 1024) × (start + need size ≤ length marks.old) }
@@ -87,7 +75,7 @@ fn mark_entry(marks: &mut [u8], start: usize, size: usize, mark: u8)
     if size <= 32 {
         return;
     }
-    mark_from(marks, start + 1, start + (size + 31) / 32, mark);
+    words::fill(marks, start + 1, (size + 31) / 32 - 1, mark);
 }
 
 // Marks each cell with the round in which its entry leaves, 31 for any later one. One pass, from the longest unused entry on.

@@ -1,5 +1,5 @@
 use Rattle.std.proofs.Common.{rules}
-use Rattle.rules.specs.Checks.{◌then◌, check_clock, check_key, refuse}
+use Rattle.rules.specs.Checks.{◌then◌, check_key, refuse}
 use Rattle.checks.proofs.key_arguments.Goals as goal
 
 pub returns-in_err-clock_argument : goal.returns-in_err-clock_argument

@@ -5,11 +5,11 @@ use Rattle.laws.specs.Buffers.{given_sound, entry_inside}
 use native.Mathlib.Omega.{arith}
 use Rattle.memory.proofs.look_up.Goals as goal
 
-pub count-n-requires : goal.count-n-requires
-count-n-requires c = (given_sound _ _ c.requires).dir_is
+pub count-i-end-requires : goal.count-i-end-requires
+count-i-end-requires c = (given_sound _ _ c.requires).dir_is
 
 pub loop-i-init : goal.loop-i-init
-loop-i-init c = (omega arith, c.count-n.ensures, seek_none)
+loop-i-init c = seek_none
 
 pub record_at-e-requires : goal.record_at-e-requires
 record_at-e-requires c = record { dir = (given_sound _ _ c.requires).dir_is; i_in_bounds = omega arith }
@@ -18,13 +18,13 @@ pub key_is-requires : goal.key_is-requires
 key_is-requires c = omega (arith, entry_inside _ _ c.requires _ (omega arith) _ c.record_at-e.ensures)
 
 pub returns-then-is_dead : goal.returns-then-is_dead
-returns-then-is_dead c = seek_dead _ c.record_at-e.ensures (omega arith) c.loop-i.invariant.2 (sym c.key_is.ensures ∙ c.if-key_is.true) (sym c.is_dead.ensures ∙ c.if-is_dead.true)
+returns-then-is_dead c = seek_dead _ c.record_at-e.ensures (omega arith) c.loop-i.invariant (sym c.key_is.ensures ∙ c.if-key_is.true) (sym c.is_dead.ensures ∙ c.if-is_dead.true)
 
 pub returns-then-key_is : goal.returns-then-key_is
-returns-then-key_is c = seek_live _ c.record_at-e.ensures (omega arith) c.loop-i.invariant.2 (sym c.key_is.ensures ∙ c.if-key_is.true) (sym c.is_dead.ensures ∙ c.if-is_dead.false)
+returns-then-key_is c = seek_live _ c.record_at-e.ensures (omega arith) c.loop-i.invariant (sym c.key_is.ensures ∙ c.if-key_is.true) (sym c.is_dead.ensures ∙ c.if-is_dead.false)
 
 pub loop-i-preserved : goal.loop-i-preserved
-loop-i-preserved c = (omega arith, c.loop-i.invariant.1, seek_more _ c.record_at-e.ensures (omega arith) c.loop-i.invariant.2 (sym c.key_is.ensures ∙ c.if-key_is.false))
+loop-i-preserved c = seek_more _ c.record_at-e.ensures (omega arith) c.loop-i.invariant (sym c.key_is.ensures ∙ c.if-key_is.false)
 
 pub returns : goal.returns
-returns c = seek_end c.loop-i.invariant.2 (omega arith)
+returns c = seek_end c.loop-i.invariant (omega arith)

@@ -1,5 +1,5 @@
 -- `placement::find_place` meets its contract.
-use Rattle.std.proofs.Common.{sym, ◌∙◌, rules, ◌≡◌, Some}
+use Rattle.std.proofs.Common.{sym, ◌∙◌, ◌≡◌, Some}
 use Rattle.placement.specs.Least.{place_least}
 use Rattle.placement.proofs.find_place.Goals as goal
 
