@@ -9,6 +9,7 @@ ghost use Rattle.rules.specs.Calls.{fresh_call, get_call, get_stale_call, ttl_ca
 ghost use Rattle.rules.specs.Exports.{Exported, ExportedListing, initial_of, bytes_place, show_place};
 
 use rules::{Answer, Found, Initial};
+use storing::Value;
 
 // ---- an answer as words
 
@@ -148,9 +149,14 @@ pub extern "C" fn reefcandor_set(
 )
     ensures { Exported (store_call Set dir.old pool.old clock key.now kind number text.now lifetime flags) answer.new dir.new pool.new }
 {
-    *answer = answer_words(storing::set(
-        dir, pool, clock, key, kind, number, text, lifetime, flags,
-    ));
+    let value = Value {
+        kind,
+        number,
+        text,
+        lifetime,
+        flags,
+    };
+    *answer = answer_words(storing::set(dir, pool, clock, key, value));
 }
 
 // safe_set: as set, but runs no rounds: without a free place it answers 12.
@@ -169,9 +175,14 @@ pub extern "C" fn reefcandor_safe_set(
 )
     ensures { Exported (store_call SafeSet dir.old pool.old clock key.now kind number text.now lifetime flags) answer.new dir.new pool.new }
 {
-    *answer = answer_words(storing::safe_set(
-        dir, pool, clock, key, kind, number, text, lifetime, flags,
-    ));
+    let value = Value {
+        kind,
+        number,
+        text,
+        lifetime,
+        flags,
+    };
+    *answer = answer_words(storing::safe_set(dir, pool, clock, key, value));
 }
 
 // add: as set, but a live entry under the key gives 9, and nil 6.
@@ -190,9 +201,14 @@ pub extern "C" fn reefcandor_add(
 )
     ensures { Exported (store_call Add dir.old pool.old clock key.now kind number text.now lifetime flags) answer.new dir.new pool.new }
 {
-    *answer = answer_words(storing::add(
-        dir, pool, clock, key, kind, number, text, lifetime, flags,
-    ));
+    let value = Value {
+        kind,
+        number,
+        text,
+        lifetime,
+        flags,
+    };
+    *answer = answer_words(storing::add(dir, pool, clock, key, value));
 }
 
 // safe_add: as add, but runs no rounds.
@@ -211,9 +227,14 @@ pub extern "C" fn reefcandor_safe_add(
 )
     ensures { Exported (store_call SafeAdd dir.old pool.old clock key.now kind number text.now lifetime flags) answer.new dir.new pool.new }
 {
-    *answer = answer_words(storing::safe_add(
-        dir, pool, clock, key, kind, number, text, lifetime, flags,
-    ));
+    let value = Value {
+        kind,
+        number,
+        text,
+        lifetime,
+        flags,
+    };
+    *answer = answer_words(storing::safe_add(dir, pool, clock, key, value));
 }
 
 // replace: as set, but a missing or dead entry gives 8, and nil 6.
@@ -232,9 +253,14 @@ pub extern "C" fn reefcandor_replace(
 )
     ensures { Exported (store_call Replace dir.old pool.old clock key.now kind number text.now lifetime flags) answer.new dir.new pool.new }
 {
-    *answer = answer_words(storing::replace(
-        dir, pool, clock, key, kind, number, text, lifetime, flags,
-    ));
+    let value = Value {
+        kind,
+        number,
+        text,
+        lifetime,
+        flags,
+    };
+    *answer = answer_words(storing::replace(dir, pool, clock, key, value));
 }
 
 // ---- incr

@@ -137,10 +137,12 @@ module _ (clock : ℕ) (key : List ℕ) (step : ℤ) (removed : ℕ) (dir pool :
             swept = omega (arith, c.swept, order.of_removed);
           }
 
-      pub initial_does : {a : Answer} {dir' pool' : List ℕ} → Does (store_item o.most clock (item_from o) (Ok o.told) o.removed (memory_of dir pool) found) (length dir) a dir' pool' → Does (initially initial) (length dir) a dir' pool'
-      initial_does d =
-          does_is (new_is true (sum_told (number +ℤ step) z told).range)
-          (does_is (rw (item_is, order.of_most, order.of_told, order.of_removed, told_held (number +ℤ step) z told)) d)
+    -- what is stored is what a plain set of the sum stores
+    pub initial_does : (z : ℤ) → sum_of (number +ℤ step) ≡ Some z → (expiry : ℕ) (bytes : List ℕ) → expiry ≡ expiry_of clock lifetime → bytes ≡ number_bytes (held z) → {a : Answer} {dir' pool' : List ℕ} → Does (store_item 30 clock (record { expiry = expiry; kind = 3; flags = 0; key = key; value = bytes }) (Ok (Sum (held z))) removed (memory_of dir pool) found) (length dir) a dir' pool' → Does (initially initial) (length dir) a dir' pool'
+    unfolding item_of value_given
+    initial_does z told expiry bytes x b d =
+        does_is (new_is true (sum_told (number +ℤ step) z told).range)
+        (does_is (rw (x, b, told_held (number +ℤ step) z told)) d)
 
 -- ---- by what was found
 

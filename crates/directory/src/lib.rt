@@ -93,7 +93,7 @@ pub fn truncate(dir: &mut [u64], k: usize)
 {
     let n = dir[1] as usize;
     dir[1] = k as u64;
-    words::clear(dir, 2 + 6 * k, 6 * (n - k));
+    words::fill(dir, 2 + 6 * k, 6 * (n - k), 0);
 }
 
 // Puts e in the place of the entry at i.

@@ -21,4 +21,4 @@ pub store_item-requires : goal.store_item-requires
 store_item-requires c = record { pool_value = c.requires.pool_value; storable = initial_storable _ _ _ _ c.args.dir.now c.args.pool.now c.args.found _ _ _ c.in-Some.is _ _ (add_told {x = c.in-Some.begin.number} (held_is (search rules) refl) (to_z-of_z {w = w64} c.ranges.step) c.add.ensures c.in-Some-add.is) (record { of_key = refl; of_bytes = c.number_bytes-bytes.ensures; of_expiry = c.expiry_of.ensures; of_kind = refl; of_flags = refl; of_most = refl; of_told = refl; of_removed = refl }) c.requires.countable; found_value = c.requires.found_value }
 
 pub returns : goal.returns
-returns c = initial_does _ _ _ _ _ _ _ _ _ _ c.in-Some.is _ _ (add_told {x = c.in-Some.begin.number} (held_is (search rules) refl) (to_z-of_z {w = w64} c.ranges.step) c.add.ensures c.in-Some-add.is) (record { of_key = refl; of_bytes = c.number_bytes-bytes.ensures; of_expiry = c.expiry_of.ensures; of_kind = refl; of_flags = refl; of_most = refl; of_told = refl; of_removed = refl }) c.store_item.ensures
+returns c = initial_does _ _ _ _ _ _ _ _ _ _ c.in-Some.is _ (add_told {x = c.in-Some.begin.number} (held_is (search rules) refl) (to_z-of_z {w = w64} c.ranges.step) c.add.ensures c.in-Some-add.is) _ _ c.expiry_of.ensures c.number_bytes-bytes.ensures c.store_item.ensures
