@@ -1,6 +1,6 @@
 -- First fit in one pass: no start that was passed has room, and the run at hand is within the limit.
 use Rattle.std.proofs.Math.Path.{◌≡◌, refl, sym}
-use Rattle.std.proofs.Common.{ap, subst, ◌∙◌, below_more}
+use Rattle.std.proofs.Common.{ap, ◌∙◌, below_more}
 use Rattle.std.specs.Prelude.{Bool, ◌&&◌, List, leb, length, Option, Some, None}
 use Rattle.std.proofs.Math.Bool.{true, false, cond, and-false}
 use Prim.Native.Nat.{ℕ, zero, suc, ◌+◌, ◌-◌, ◌≤◌, ◌<◌}
@@ -108,63 +108,6 @@ module _ {marks : List ℕ} {limit n : ℕ} where
   pub looking_end : {start run looks : ℕ} → Looking marks limit n start → Running marks limit n start run → (run ≡ n → ⊥) → start + run ≡ length marks → looks ≡ start + run → FirstFit marks limit n None looks
   unfolding looks_for
   looking_end k r p q l = record { fit_is = nowhere k r p q; looks_are = omega arith }
-
--- ---- by the cell at hand, behind the run
-
--- the cells before c are looked at, the last `run` of them within the limit
-pub record Scanned (marks : List ℕ) (limit n c run : ℕ) : Type 0 where
-  pub behind : run ≤ c
-  pub short : run < n
-  pub looking : Looking marks limit n (c - run)
-  pub running : Running marks limit n (c - run) run
-
-module _ {marks : List ℕ} {limit n : ℕ} where
-  pub scanned_none : 0 < n → Scanned marks limit n 0 0
-  scanned_none h = record { behind = omega arith; short = h; looking = looking_none; running = running_none (omega arith) }
-
-  module _ {c run : ℕ} (s : Scanned marks limit n c run) where
-    abbrev start : ℕ
-    start = c - run
-
-    at : start + run ≡ c
-    at = omega (arith, s.behind)
-
-    short : run ≡ n → ⊥
-    short e = omega (arith, s.short)
-
-    module _ (l : c < length marks) where
-      inside : start + run ≡ length marks → ⊥
-      inside e = omega (arith, at)
-
-      -- the cell is above the limit
-      pub scanned_past : limit < get_or marks c 0 → Scanned marks limit n (c + 1) 0
-      scanned_past o =
-          let next : Looking marks limit n (start + (run + 1)) = looking_more s.looking s.running short inside (rw at o) in
-          let e : start + (run + 1) ≡ c + 1 - 0 = omega (arith, at) in
-          record { behind = omega arith; short = omega (arith, s.short); looking = subst (Looking marks limit n) e next; running = running_none (omega arith) }
-
-      module _ (h : get_or marks c 0 ≤ limit) where
-        more : Running marks limit n start (run + 1)
-        more = running_more s.running short inside (rw at h)
-
-        -- it is within the limit
-        pub scanned_more : (run + 1 ≡ n → ⊥) → Scanned marks limit n (c + 1) (run + 1)
-        scanned_more q =
-            let e : start ≡ c + 1 - (run + 1) = omega (arith, at) in
-            record {
-              behind = omega (arith, s.behind);
-              short = omega (arith, s.short);
-              looking = subst (Looking marks limit n) e s.looking;
-              running = subst (λ (x : ℕ). Running marks limit n x (run + 1)) e more;
-            }
-
-        pub scanned_found : run + 1 ≡ n → FirstFit marks limit n (Some (c + 1 - n)) (c + 1)
-        scanned_found q =
-            let e : start ≡ c + 1 - n = omega (arith, at) in
-            subst (λ (x : ℕ). FirstFit marks limit n (Some x) (c + 1)) e (looking_found s.looking more q (omega (arith, at)))
-
-    pub scanned_all : c ≤ length marks → length marks ≤ c → FirstFit marks limit n None (length marks)
-    scanned_all l h = looking_end s.looking s.running short (omega (arith, at)) (omega (arith, at))
 
 -- ---- which limits have a fit
 

@@ -12,28 +12,35 @@ pub struct Looked {
     pub looks: usize,
 }
 
-// The lowest start from which `need` cells are all marked within the limit. One look at each cell, up to the place's last one.
+// The lowest start from which `need` cells are all marked within the limit. A cell above the limit is stepped past, so that no cell is looked at twice.
 pub fn first_fit(marks: &[u8], limit: u8, need: usize) -> Looked
     requires { 0 < need }
     ensures { FirstFit marks.now limit need result.fit result.looks }
 {
-    let mut run: usize = 0; // cells within the limit, up to the one before
-    for (cell, &mark) in marks.iter().enumerate() {
-        if limit < mark {
-            run = 0;
-            continue;
+    let mut start: usize = 0;
+    let mut looks: usize = 0;
+    'outer: loop {
+        let mut run: usize = 0; // cells within the limit
+        loop {
+            if run == need {
+                break 'outer Looked {
+                    fit: Some(start),
+                    looks,
+                };
+            }
+            if start + run == marks.len() {
+                break 'outer Looked {
+                    fit: None,
+                    looks, // at every cell
+                };
+            }
+            looks += 1;
+            if limit < marks[start + run] {
+                break;
+            }
+            run += 1;
         }
-        run += 1;
-        if run == need {
-            return Looked {
-                fit: Some(cell + 1 - need),
-                looks: cell + 1,
-            };
-        }
-    }
-    Looked {
-        fit: None,
-        looks: marks.len(), // at every cell
+        start += run + 1; // past the occupied one
     }
 }
 

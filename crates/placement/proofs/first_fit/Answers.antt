@@ -1,17 +1,25 @@
-use Rattle.placement.specs.Fitting.{scanned_none, scanned_past, scanned_more, scanned_found, scanned_all}
+-- `placement::first_fit` meets its contract. The outer loop has passed no start that has room; in the inner one the run from this start is within the limit. Each cell up to there was looked at once.
+use native.Mathlib.Omega.{arith}
+use Rattle.placement.specs.Fitting.{running_none, running_more, looking_none, looking_more, looking_found, looking_end}
 use Rattle.placement.proofs.first_fit.Goals as goal
 
-pub loop-cell-init : goal.loop-cell-init
-loop-cell-init c = scanned_none c.requires
+pub outer-init : goal.outer-init
+outer-init c = (looking_none, omega arith)
 
-pub loop-cell-preserved-then-limit-mark : goal.loop-cell-preserved-then-limit-mark
-loop-cell-preserved-then-limit-mark c = scanned_past c.loop-cell.invariant c.loop-cell-test.true c.if-limit-mark.true
+pub loop-run-init : goal.loop-run-init
+loop-run-init c = (running_none c.outer.invariant.0.inside, omega arith)
 
-pub loop-cell-preserved : goal.loop-cell-preserved
-loop-cell-preserved c = scanned_more c.loop-cell.invariant c.loop-cell-test.true c.if-limit-mark.false c.if-run-need.false
+pub overflow_add-looks : goal.overflow_add-looks
+overflow_add-looks c = omega (arith, c.loop-run.invariant.0.inside)
+
+pub loop-run-preserved : goal.loop-run-preserved
+loop-run-preserved c = (running_more c.loop-run.invariant.0 c.if-run-need.false c.if-start-run.false c.if-limit-marks.false, omega arith)
+
+pub outer-preserved : goal.outer-preserved
+outer-preserved c = (looking_more c.outer.invariant.0 c.loop-run.invariant.0 c.if-run-need.false c.if-start-run.false c.if-limit-marks.true, omega arith)
 
 pub returns-then-run-need : goal.returns-then-run-need
-returns-then-run-need c = scanned_found c.loop-cell.invariant c.loop-cell-test.true c.if-limit-mark.false c.if-run-need.true
+returns-then-run-need c = looking_found c.outer.invariant.0 c.loop-run.invariant.0 c.if-run-need.true c.loop-run.invariant.1
 
-pub returns : goal.returns
-returns c = scanned_all c.loop-cell.invariant c.loop-cell.auto.cell-end c.loop-cell-test.false
+pub returns-then-start-run : goal.returns-then-start-run
+returns-then-start-run c = looking_end c.outer.invariant.0 c.loop-run.invariant.0 c.if-run-need.false c.if-start-run.true c.loop-run.invariant.1
