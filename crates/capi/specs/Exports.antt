@@ -5,7 +5,7 @@ use Rattle.std.specs.Int.{w64}
 use Rattle.rules.specs.declared.Answer.{Answer}
 use Rattle.rules.specs.declared.Operation.{Operation}
 use Rattle.rules.specs.declared.Initial.{Initial}
-use Rattle.rules.specs.Outcome.{given}
+use Rattle.rules.specs.Check.{given}
 use Rattle.rules.specs.Answer.{answer_words}
 use Rattle.rules.specs.Calls.{Result, gave, store_call, incr_call, FlatListing, flat_listing}
 use Rattle.rules.specs.Exports.{Exported, ExportedListing, initial_of}

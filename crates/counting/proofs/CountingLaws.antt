@@ -8,13 +8,13 @@ use Rattle.std.proofs.Math.ListN.{length}
 use Rattle.std.specs.Int.{w64}
 use Rattle.rules.specs.declared.Entry.{Entry}
 use Rattle.rules.specs.declared.Answer.{Answer}
-use Rattle.rules.specs.declared.Reply.TheVariants.{Sum}
-use Rattle.rules.specs.declared.Refusal.TheVariants.{ExpiryTooLate, NotFound, NotNumber, SumTooLarge}
-use Rattle.rules.specs.Outcome.{Check}
+use Rattle.rules.specs.declared.Outcome.{Outcome}
+use Rattle.rules.specs.declared.Outcome.TheVariants.{Sum, ExpiryTooLate, NotFound, NotNumber, SumTooLarge}
+use Rattle.rules.specs.Check.{Check}
 use Rattle.rules.specs.declared.Found.{Found}
 use Rattle.rules.specs.declared.Found.TheVariants.{Live, Dead, Missing}
 use Rattle.rules.specs.declared.Initial.{Initial}
-use Rattle.rules.specs.Outcome.{given}
+use Rattle.rules.specs.Check.{given}
 use Rattle.rules.specs.Layout.{entries_of, none, number_bytes, number_at, Dir, Memory, memory_of}
 use Rattle.rules.specs.Time.{expiry_of, too_late}
 use Rattle.rules.specs.Soundness.{sound}
@@ -38,7 +38,6 @@ use Rattle.values.specs.SumLaws.{Told, sum_told, sum_refused}
 use Rattle.storing.specs.declared.Order.{Order}
 use Rattle.storing.specs.Order.{item_from, Storable}
 use Rattle.counting.specs.Counting.{incr_at, InTime, Countable}
-use Rattle.rules.specs.declared.Refusal.{Refusal}
 
 -- a sum that was told, of the numbers as they are
 pub add_told : {a b x y : ℤ} {t u : Option ℤ} → a ≡ x → b ≡ y → t ≡ sum_of (a +ℤ b) → t ≡ u → sum_of (x +ℤ y) ≡ u
@@ -62,30 +61,30 @@ module _ (dir pool : List ℕ) (step : ℤ) (removed i : ℕ) (e : Entry) (x : e
   sum = number_at pool e +ℤ step
 
   abbrev at : Bool → Work
-  at b = cond b (incr_live removed m i sum) (did (Err NotNumber) removed m)
+  at b = cond b (incr_live removed m i sum) (did NotNumber removed m)
 
   at_is : (b : Bool) → eqb e.kind 3 ≡ b → at b ≡ incr_at step removed m i
   unfolding incr_at memory_of
   at_is b k =
-      sym (ap (λ (f : Entry). cond (eqb f.kind 3) (incr_live removed m i (number_at pool f +ℤ step)) (did (Err NotNumber) removed m)) (sym x) ∙ ap at k)
+      sym (ap (λ (f : Entry). cond (eqb f.kind 3) (incr_live removed m i (number_at pool f +ℤ step)) (did NotNumber removed m)) (sym x) ∙ ap at k)
 
-  pub live_not : (a : Answer) → Dir dir → (e.kind ≡ 3 → ⊥) → a ≡ plain (Err NotNumber) removed → Does (incr_at step removed m i) (length dir) a dir pool
+  pub live_not : (a : Answer) → Dir dir → (e.kind ≡ 3 → ⊥) → a ≡ plain NotNumber removed → Does (incr_at step removed m i) (length dir) a dir pool
   live_not a d n q = does_is (at_is false (ne_eqb e.kind 3 n)) (record { answer = q; memory = holds_itself dir pool d })
 
-  sum_is : (b : Bool) → e.kind ≡ 3 → in_range sum ≡ b → cond b (did (Ok (Sum sum)) removed (add_at i sum m)) (did (Err SumTooLarge) removed m) ≡ incr_at step removed m i
+  sum_is : (b : Bool) → e.kind ≡ 3 → in_range sum ≡ b → cond b (did (Sum sum) removed (add_at i sum m)) (did SumTooLarge removed m) ≡ incr_at step removed m i
   unfolding incr_live
-  sum_is b k r = sym (ap (λ (y : Bool). cond y (did (Ok (Sum sum)) removed (add_at i sum m)) (did (Err SumTooLarge) removed m)) r) ∙ at_is true (eq-eqb e.kind 3 k)
+  sum_is b k r = sym (ap (λ (y : Bool). cond y (did (Sum sum) removed (add_at i sum m)) (did SumTooLarge removed m)) r) ∙ at_is true (eq-eqb e.kind 3 k)
 
-  pub live_out : (a : Answer) → Dir dir → e.kind ≡ 3 → sum_of sum ≡ None → a ≡ plain (Err SumTooLarge) removed → Does (incr_at step removed m i) (length dir) a dir pool
+  pub live_out : (a : Answer) → Dir dir → e.kind ≡ 3 → sum_of sum ≡ None → a ≡ plain SumTooLarge removed → Does (incr_at step removed m i) (length dir) a dir pool
   live_out a d k o q = does_is (sum_is false k (sum_refused sum o)) (record { answer = q; memory = holds_itself dir pool d })
 
-  pub live_sum : (a : Answer) (z : ℤ) {bytes dir' pool' : List ℕ} → e.kind ≡ 3 → sum_of sum ≡ Some z → bytes ≡ number_bytes (held z) → Holds (length dir) (rewrite_at i e bytes m) dir' pool' → a ≡ plain (Ok (Sum (held z))) removed → Does (incr_at step removed m i) (length dir) a dir' pool'
+  pub live_sum : (a : Answer) (z : ℤ) {bytes dir' pool' : List ℕ} → e.kind ≡ 3 → sum_of sum ≡ Some z → bytes ≡ number_bytes (held z) → Holds (length dir) (rewrite_at i e bytes m) dir' pool' → a ≡ plain (Sum (held z)) removed → Does (incr_at step removed m i) (length dir) a dir' pool'
   unfolding add_at memory_of
   live_sum a z {bytes} {dir'} {pool'} k o b h q =
       let s : held z ≡ sum = told_held sum z o in
       does_is (sum_is true k (sum_told sum z o).range)
       (record {
-        answer = q ∙ ap (λ (y : ℤ). plain (Ok (Sum y)) removed) s;
+        answer = q ∙ ap (λ (y : ℤ). plain (Sum y) removed) s;
         memory = subst (λ (f : Entry). Holds (length dir) (rewrite_at i f (number_bytes sum) m) dir' pool') x (subst (λ (l : List ℕ). Holds (length dir) (rewrite_at i e l m) dir' pool') (b ∙ ap number_bytes s) h);
       })
 
@@ -106,18 +105,18 @@ module _ (clock : ℕ) (key : List ℕ) (step : ℤ) (removed : ℕ) (dir pool :
   abbrev initially : Option Initial → Work
   initially = incr_initial clock key step removed (memory_of dir pool) found
 
-  pub initial_absent : (a : Answer) → Dir dir → initial ≡ None → a ≡ plain (Err NotFound) removed → Does (initially initial) (length dir) a dir pool
+  pub initial_absent : (a : Answer) → Dir dir → initial ≡ None → a ≡ plain NotFound removed → Does (initially initial) (length dir) a dir pool
   unfolding incr_initial
   initial_absent a d e q = does_is (sym (ap initially e)) (record { answer = q; memory = holds_itself dir pool d })
 
   module _ (number : ℤ) (lifetime : ℕ) (is_given : initial ≡ given number lifetime) where
-    new_is : (b : Bool) → in_range (number +ℤ step) ≡ b → cond b (store_item 30 clock (item_of clock key 3 (number +ℤ step) [] lifetime 0) (Ok (Sum (number +ℤ step))) removed (memory_of dir pool) found) (did (Err SumTooLarge) removed (memory_of dir pool)) ≡ initially initial
+    new_is : (b : Bool) → in_range (number +ℤ step) ≡ b → cond b (store_item 30 clock (item_of clock key 3 (number +ℤ step) [] lifetime 0) (Sum (number +ℤ step)) removed (memory_of dir pool) found) (did SumTooLarge removed (memory_of dir pool)) ≡ initially initial
     unfolding incr_initial incr_new most_rounds
     new_is b r =
         sym (ap initially is_given
-        ∙ ap (λ (y : Bool). cond y (store_item 30 clock (item_of clock key 3 (number +ℤ step) [] lifetime 0) (Ok (Sum (number +ℤ step))) removed (memory_of dir pool) found) (did (Err SumTooLarge) removed (memory_of dir pool))) r)
+        ∙ ap (λ (y : Bool). cond y (store_item 30 clock (item_of clock key 3 (number +ℤ step) [] lifetime 0) (Sum (number +ℤ step)) removed (memory_of dir pool) found) (did SumTooLarge removed (memory_of dir pool))) r)
 
-    pub initial_out : (a : Answer) → Dir dir → sum_of (number +ℤ step) ≡ None → a ≡ plain (Err SumTooLarge) removed → Does (initially initial) (length dir) a dir pool
+    pub initial_out : (a : Answer) → Dir dir → sum_of (number +ℤ step) ≡ None → a ≡ plain SumTooLarge removed → Does (initially initial) (length dir) a dir pool
     initial_out a d o q = does_is (new_is false (sum_refused (number +ℤ step) o)) (record { answer = q; memory = holds_itself dir pool d })
 
     -- "store initial + step, flags 0, as a plain set would"
@@ -138,7 +137,7 @@ module _ (clock : ℕ) (key : List ℕ) (step : ℤ) (removed : ℕ) (dir pool :
           }
 
     -- what is stored is what a plain set of the sum stores
-    pub initial_does : (z : ℤ) → sum_of (number +ℤ step) ≡ Some z → (expiry : ℕ) (bytes : List ℕ) → expiry ≡ expiry_of clock lifetime → bytes ≡ number_bytes (held z) → {a : Answer} {dir' pool' : List ℕ} → Does (store_item 30 clock (record { expiry = expiry; kind = 3; flags = 0; key = key; value = bytes }) (Ok (Sum (held z))) removed (memory_of dir pool) found) (length dir) a dir' pool' → Does (initially initial) (length dir) a dir' pool'
+    pub initial_does : (z : ℤ) → sum_of (number +ℤ step) ≡ Some z → (expiry : ℕ) (bytes : List ℕ) → expiry ≡ expiry_of clock lifetime → bytes ≡ number_bytes (held z) → {a : Answer} {dir' pool' : List ℕ} → Does (store_item 30 clock (record { expiry = expiry; kind = 3; flags = 0; key = key; value = bytes }) (Sum (held z)) removed (memory_of dir pool) found) (length dir) a dir' pool' → Does (initially initial) (length dir) a dir' pool'
     unfolding item_of value_given
     initial_does z told expiry bytes x b d =
         does_is (new_is true (sum_told (number +ℤ step) z told).range)
@@ -200,7 +199,7 @@ module _ (dir pool : List ℕ) (clock : ℕ) (key : List ℕ) (step : ℤ) (init
   losing : {r : Result} → is_call r → is_call r × IncrLosesLeast dir pool clock key step initial r
   losing e = (e, loses initial e)
 
-  pub incr_refused : (c : Check) (o : Refusal) (a : Answer) → c ≡ incr_checks dir pool clock key initial → c ≡ Err o → a ≡ plain (Err o) 0 → is_call (gave a dir pool) × IncrLosesLeast dir pool clock key step initial (gave a dir pool)
+  pub incr_refused : (c : Check) (o : Outcome) (a : Answer) → c ≡ incr_checks dir pool clock key initial → c ≡ Err o → a ≡ plain o 0 → is_call (gave a dir pool) × IncrLosesLeast dir pool clock key step initial (gave a dir pool)
   unfolding incr_call
   incr_refused c o a e q s = losing (gave_refused (incr_checks dir pool clock key initial) (incr_work clock key step initial) dir pool o a (sym e ∙ q) s)
 

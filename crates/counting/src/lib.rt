@@ -10,7 +10,7 @@ ghost use Rattle.rules.specs.LeastLoss.{IncrLosesLeast};
 ghost use Rattle.rules.specs.Calls.{gave, Does, incr_found, incr_initial, incr_work, incr_call};
 ghost use Rattle.counting.specs.Counting.{incr_at, Countable};
 
-use rules::{Answer, Found, Initial, Refusal, Reply};
+use rules::{Answer, Found, Initial, Outcome};
 use storing::Order;
 
 // Adds the step to the live entry at i: not a number gives 10, a sum out of range 11, both before anything changes.
@@ -21,14 +21,14 @@ fn incr_live(dir: &mut [u64], pool: &mut [u8], i: usize, step: i64, removed: usi
 {
     let e = directory::record_at(dir, i);
     if e.kind != 3 {
-        return Answer::plain(Err(Refusal::NotNumber), removed);
+        return Answer::plain(Outcome::NotNumber, removed);
     }
     let Some(number) = values::add(values::number_at(pool, e), step) else {
-        return Answer::plain(Err(Refusal::SumTooLarge), removed); // nothing is stored
+        return Answer::plain(Outcome::SumTooLarge, removed); // nothing is stored
     };
     let bytes = values::number_bytes(number);
     storing::rewrite_at(dir, pool, i, e, &bytes[..]);
-    Answer::plain(Ok(Reply::Sum(number)), removed)
+    Answer::plain(Outcome::Sum(number), removed)
 }
 
 // Stores the initial number plus the step, as a plain set would; without an initial number 8, and a sum out of range 11.
@@ -48,10 +48,10 @@ fn incr_initial(
     ensures { Does (incr_initial clock key.now step removed (memory_of dir.old pool.old) found initial) (length dir.old) result dir.new pool.new }
 {
     let Some(begin) = initial else {
-        return Answer::plain(Err(Refusal::NotFound), removed);
+        return Answer::plain(Outcome::NotFound, removed);
     };
     let Some(total) = values::add(begin.number, step) else {
-        return Answer::plain(Err(Refusal::SumTooLarge), removed);
+        return Answer::plain(Outcome::SumTooLarge, removed);
     };
     let bytes = values::number_bytes(total);
     let order = Order {
@@ -61,7 +61,7 @@ fn incr_initial(
         kind: 3,
         flags: 0,
         most: 30,
-        told: Reply::Sum(total),
+        told: Outcome::Sum(total),
         removed,
     };
     storing::store_item(dir, pool, clock, order, found)
@@ -117,7 +117,7 @@ pub fn incr(
     ensures least_loss { IncrLosesLeast dir.old pool.old clock key.now step initial (gave result dir.new pool.new) }
 {
     if let Err(refusal) = checks::of_incr(dir, pool, clock, key, initial) {
-        return Answer::plain(Err(refusal), 0);
+        return Answer::plain(refusal, 0);
     }
     incr_in(dir, pool, clock, key, step, initial)
 }

@@ -1,10 +1,9 @@
 -- A refused answer tells nothing but its number; and the removals that answers report are those of the entries.
-use Rattle.std.specs.Prelude.{◌≡◌, refl, Bool, true, false, cond, ℕ, zero, suc, ◌+◌, ◌-◌, ◌≤◌, length, Ok, Err}
+use Rattle.std.specs.Prelude.{◌≡◌, refl, Bool, true, false, cond, ℕ, zero, suc, ◌+◌, ◌-◌, ◌≤◌, length}
 use Rattle.std.proofs.Common.{ap, arith, length-take-le}
 use Rattle.std.proofs.lemmas.List.{length-reverse}
-use Rattle.rules.specs.Outcome.{Outcome}
-use Rattle.rules.specs.declared.Reply.TheVariants.{Done, Number, Boolean, Text, Count, Sum}
-use Rattle.rules.specs.declared.Refusal.TheVariants.{NotSound, ClockZero, KeyEmpty, KeyTooLong, KindUnknown, NilRefused, ExpiryTooLate, NotFound, Exists, NotNumber, SumTooLarge, NoMemory, LineUnreadable}
+use Rattle.rules.specs.declared.Outcome.{Outcome}
+use Rattle.rules.specs.declared.Outcome.TheVariants.{Done, Number, Boolean, Text, Count, Sum, NotSound, ClockZero, KeyEmpty, KeyTooLong, KindUnknown, NilRefused, ExpiryTooLate, NotFound, Exists, NotNumber, SumTooLarge, NoMemory, LineUnreadable}
 use Rattle.rules.specs.Layout.{Memory, entry_in, remove}
 use Rattle.laws.specs.LayoutLaws.{oldest_entries}
 use Rattle.rules.specs.Time.{dead}
@@ -18,25 +17,25 @@ use Rattle.laws.specs.Blocks.{remove_sub}
 -- "A refused answer holds no weight, kind or flag"
 pub refused_bare : (o : Outcome) → (number_of o ≡ 0 → ⊥) → fields_of o ≡ only (number_of o)
 unfolding fields_of
-refused_bare (Ok Done) n = refl
-refused_bare (Ok (Number flags number offset)) n = absurd (n refl)
-refused_bare (Ok (Boolean flags on offset)) n = absurd (n refl)
-refused_bare (Ok (Text flags offset size)) n = absurd (n refl)
-refused_bare (Ok (Count c)) n = absurd (n refl)
-refused_bare (Ok (Sum z)) n = absurd (n refl)
-refused_bare (Err NotSound) n = refl
-refused_bare (Err ClockZero) n = refl
-refused_bare (Err KeyEmpty) n = refl
-refused_bare (Err KeyTooLong) n = refl
-refused_bare (Err KindUnknown) n = refl
-refused_bare (Err NilRefused) n = refl
-refused_bare (Err ExpiryTooLate) n = refl
-refused_bare (Err NotFound) n = refl
-refused_bare (Err Exists) n = refl
-refused_bare (Err NotNumber) n = refl
-refused_bare (Err SumTooLarge) n = refl
-refused_bare (Err NoMemory) n = refl
-refused_bare (Err LineUnreadable) n = refl
+refused_bare Done n = refl
+refused_bare (Number flags number offset) n = absurd (n refl)
+refused_bare (Boolean flags on offset) n = absurd (n refl)
+refused_bare (Text flags offset size) n = absurd (n refl)
+refused_bare (Count c) n = absurd (n refl)
+refused_bare (Sum z) n = absurd (n refl)
+refused_bare NotSound n = refl
+refused_bare ClockZero n = refl
+refused_bare KeyEmpty n = refl
+refused_bare KeyTooLong n = refl
+refused_bare KindUnknown n = refl
+refused_bare NilRefused n = refl
+refused_bare ExpiryTooLate n = refl
+refused_bare NotFound n = refl
+refused_bare Exists n = refl
+refused_bare NotNumber n = refl
+refused_bare SumTooLarge n = refl
+refused_bare NoMemory n = refl
+refused_bare LineUnreadable n = refl
 
 -- the sweep reports what it removes
 pub sweep_counts : (clock : ℕ) (m : Memory) → length (sweep clock m).entries + sweep_count clock m ≡ length m.entries

@@ -2,8 +2,8 @@
 use Rattle.std.specs.Prelude.{◌≡◌, refl, true, false, not, ◌||◌, List, [], ◌⊎◌, ℕ, ◌+◌, ◌*◌, ◌^◌, ◌≤◌, ◌<◌, eqb, length, ℤ, Err, Ok, Option}
 use Rattle.std.proofs.Common.{sym, ◌∙◌, true≢false, ⊎_elim, inl, inr, arith, eqb-true}
 use Rattle.std.proofs.lemmas.Bool.{not-false}
-use Rattle.rules.specs.declared.Refusal.TheVariants.{KindUnknown}
-use Rattle.rules.specs.Outcome.{Check}
+use Rattle.rules.specs.declared.Outcome.TheVariants.{KindUnknown}
+use Rattle.rules.specs.Check.{Check}
 use Rattle.rules.specs.declared.Operation.{Operation}
 use Rattle.rules.specs.declared.Initial.{Initial}
 use Rattle.rules.specs.Layout.{cells_of, encode, entries_of, Dir, Memory, memory_of}

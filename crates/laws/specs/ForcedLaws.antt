@@ -6,10 +6,9 @@ use mathlib.Core.List.{List, [], ◌∷◌}
 use Rattle.std.proofs.Common.{arith}
 use Rattle.rules.specs.declared.Entry.{Entry}
 use Rattle.rules.specs.declared.Answer.{Answer}
-use Rattle.rules.specs.Outcome.{Outcome}
-use Rattle.rules.specs.declared.Reply.TheVariants.{Done, Sum}
-use Rattle.rules.specs.declared.Refusal.TheVariants.{NotFound, NotNumber, SumTooLarge}
-use Rattle.rules.specs.Outcome.{Check}
+use Rattle.rules.specs.declared.Outcome.{Outcome}
+use Rattle.rules.specs.declared.Outcome.TheVariants.{Done, Sum, NotFound, NotNumber, SumTooLarge}
+use Rattle.rules.specs.Check.{Check}
 use Rattle.rules.specs.declared.Found.{Found}
 use Rattle.rules.specs.declared.Found.TheVariants.{Live, Dead, Missing}
 use Rattle.rules.specs.declared.Operation.{Operation}
@@ -92,9 +91,9 @@ module _ (clock : ℕ) where
 
     stored_or_deleted : (nil : Bool) (f : Found) → Marked (line (own_out m f)) (cond nil (delete_found removed m f) (store_item most clock item told removed m f)).answer
     unfolding delete_found
-    stored_or_deleted true (Live i) = quiet (line (own_out m (Live i))) (Ok Done) removed
-    stored_or_deleted true (Dead i) = quiet (line (own_out m (Dead i))) (Ok Done) removed
-    stored_or_deleted true Missing = quiet (line (own_out m Missing)) (Ok Done) removed
+    stored_or_deleted true (Live i) = quiet (line (own_out m (Live i))) Done removed
+    stored_or_deleted true (Dead i) = quiet (line (own_out m (Dead i))) Done removed
+    stored_or_deleted true Missing = quiet (line (own_out m Missing)) Done removed
     stored_or_deleted false f = stored f
 
   store_found_is : (op : Operation) (item : Item) (removed : ℕ) (m : Memory) (f : Found) → Marked (line (own_out m f)) (store_found op clock item removed m f).answer
@@ -102,8 +101,8 @@ module _ (clock : ℕ) where
   store_found_is op item removed m f = go (admits op f)
     where
       go : (c : Check) → Marked (line (own_out m f)) (store_admitted op clock item removed m f c).answer
-      go (Err o) = quiet (line (own_out m f)) (Err o) removed
-      go (Ok _) = stored_or_deleted (most_rounds op) item (Ok Done) removed m refl (eqb item.kind 0) f
+      go (Err o) = quiet (line (own_out m f)) o removed
+      go (Ok _) = stored_or_deleted (most_rounds op) item Done removed m refl (eqb item.kind 0) f
 
   -- ---- and an incr
 
@@ -112,23 +111,23 @@ module _ (clock : ℕ) where
     unfolding incr_new fields_of
     incr_new_is f lifetime sum = go (in_range sum)
       where
-        go : (b : Bool) → Marked (line (own_out m f)) (cond b (store_item (most_rounds Set) clock (item_of clock key 3 sum [] lifetime 0) (Ok (Sum sum)) removed m f) (did (Err SumTooLarge) removed m)).answer
-        go true = stored (most_rounds Set) (item_of clock key 3 sum [] lifetime 0) (Ok (Sum sum)) removed m refl f
-        go false = quiet (line (own_out m f)) (Err SumTooLarge) removed
+        go : (b : Bool) → Marked (line (own_out m f)) (cond b (store_item (most_rounds Set) clock (item_of clock key 3 sum [] lifetime 0) (Sum sum) removed m f) (did SumTooLarge removed m)).answer
+        go true = stored (most_rounds Set) (item_of clock key 3 sum [] lifetime 0) (Sum sum) removed m refl f
+        go false = quiet (line (own_out m f)) SumTooLarge removed
 
     incr_initial_is : (f : Found) (initial : Option Initial) → Marked (line (own_out m f)) (incr_initial clock key step removed m f initial).answer
     unfolding incr_initial
     incr_initial_is f (Some begin) = incr_new_is f begin.lifetime (begin.number +ℤ step)
-    incr_initial_is f None = quiet (line (own_out m f)) (Err NotFound) removed
+    incr_initial_is f None = quiet (line (own_out m f)) NotFound removed
 
-    incr_live_is : (i : ℕ) (number : Bool) (sum : ℤ) → Marked (line (own_out m (Live i))) (cond number (incr_live removed m i sum) (did (Err NotNumber) removed m)).answer
+    incr_live_is : (i : ℕ) (number : Bool) (sum : ℤ) → Marked (line (own_out m (Live i))) (cond number (incr_live removed m i sum) (did NotNumber removed m)).answer
     unfolding incr_live
     incr_live_is i true sum = go (in_range sum)
       where
-        go : (b : Bool) → Marked (line (own_out m (Live i))) (cond b (did (Ok (Sum sum)) removed (add_at i sum m)) (did (Err SumTooLarge) removed m)).answer
-        go true = quiet (line (own_out m (Live i))) (Ok (Sum sum)) removed
-        go false = quiet (line (own_out m (Live i))) (Err SumTooLarge) removed
-    incr_live_is i false sum = quiet (line (own_out m (Live i))) (Err NotNumber) removed
+        go : (b : Bool) → Marked (line (own_out m (Live i))) (cond b (did (Sum sum) removed (add_at i sum m)) (did SumTooLarge removed m)).answer
+        go true = quiet (line (own_out m (Live i))) (Sum sum) removed
+        go false = quiet (line (own_out m (Live i))) SumTooLarge removed
+    incr_live_is i false sum = quiet (line (own_out m (Live i))) NotNumber removed
 
     incr_found_is : (initial : Option Initial) (f : Found) → Marked (line (own_out m f)) (incr_found clock key step initial removed m f).answer
     unfolding incr_found
@@ -142,7 +141,7 @@ module _ (clock : ℕ) where
       → ((removed : ℕ) (m : Memory) (f : Found) → Marked (line (own_out m f)) (work removed m f).answer)
       → ForcedOf clock key dir pool (call c (after_sweep clock (λ removed m. work removed m (look_up clock key m))) dir pool)
   unfolding call line_for rest_for after_sweep
-  called key (Err o) work dir pool h = quiet (line_for clock key (memory_of dir pool)) (Err o) 0
+  called key (Err o) work dir pool h = quiet (line_for clock key (memory_of dir pool)) o 0
   called key (Ok _) work dir pool h =
       let m : Memory = memory_of dir pool in
       h (sweep_count clock m) (sweep clock m) (look_up clock key (sweep clock m))

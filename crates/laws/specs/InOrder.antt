@@ -5,10 +5,9 @@ use Rattle.std.proofs.Common.{◌∙◌}
 use Rattle.std.proofs.Math.Bool.{true, false}
 use Rattle.std.proofs.Math.IntN.{ℤ}
 use Rattle.rules.specs.declared.Entry.{Entry}
-use Rattle.rules.specs.Outcome.{Outcome}
-use Rattle.rules.specs.declared.Reply.TheVariants.{Done, Number, Boolean, Text, Sum}
-use Rattle.rules.specs.declared.Refusal.TheVariants.{NotNumber, SumTooLarge}
-use Rattle.rules.specs.Outcome.{Check}
+use Rattle.rules.specs.declared.Outcome.{Outcome}
+use Rattle.rules.specs.declared.Outcome.TheVariants.{Done, Number, Boolean, Text, Sum, NotNumber, SumTooLarge}
+use Rattle.rules.specs.Check.{Check}
 use Rattle.rules.specs.declared.Found.{Found}
 use Rattle.rules.specs.declared.Found.TheVariants.{Live, Dead, Missing}
 use Rattle.rules.specs.declared.Operation.{Operation}
@@ -39,7 +38,7 @@ shown_done : (pool : List ℕ) (e : Entry) → number_of (shown pool e) ≡ 0
 unfolding shown fields_of
 shown_done pool e = go (eqb e.kind 1) (eqb e.kind 3)
   where
-    go : (x y : Bool) → number_of (cond x (Ok (Boolean e.flags (not (eqb (get_or pool (value_offset e) 0) 0)) (value_offset e))) (cond y (Ok (Number e.flags (number_at pool e) (value_offset e))) (Ok (Text e.flags (value_offset e) e.vlen)))) ≡ 0
+    go : (x y : Bool) → number_of (cond x (Boolean e.flags (not (eqb (get_or pool (value_offset e) 0) 0)) (value_offset e)) (cond y (Number e.flags (number_at pool e) (value_offset e)) (Text e.flags (value_offset e) e.vlen))) ≡ 0
     go true y = refl
     go false true = refl
     go false false = refl
@@ -95,9 +94,9 @@ module _ (Inv : Memory → Type 0) (removes : (i : ℕ) (m : Memory) → Inv m �
   unfolding store_found store_admitted fields_of
   store_found_is op clock item removed m f h = go (admits op f)
     where
-      nil_or : (b : Bool) → Keeps (cond b (delete_found removed m f) (store_item (most_rounds op) clock item (Ok Done) removed m f))
+      nil_or : (b : Bool) → Keeps (cond b (delete_found removed m f) (store_item (most_rounds op) clock item Done removed m f))
       nil_or true n = absurd (n (delete_done removed m f))
-      nil_or false n = stored (most_rounds op) clock item (Ok Done) refl removed m f h n
+      nil_or false n = stored (most_rounds op) clock item Done refl removed m f h n
 
       go : (c : Check) → Keeps (store_admitted op clock item removed m f c)
       go (Err o) n = h
@@ -117,16 +116,16 @@ module _ (Inv : Memory → Type 0) (removes : (i : ℕ) (m : Memory) → Inv m �
         lifetime : ℕ
         lifetime = begin.lifetime
 
-        go : (b : Bool) → Keeps (cond b (store_item (most_rounds Set) clock (item_of clock key 3 sum [] lifetime 0) (Ok (Sum sum)) removed m f) (did (Err SumTooLarge) removed m))
-        go true n = stored (most_rounds Set) clock (item_of clock key 3 sum [] lifetime 0) (Ok (Sum sum)) refl removed m f h n
+        go : (b : Bool) → Keeps (cond b (store_item (most_rounds Set) clock (item_of clock key 3 sum [] lifetime 0) (Sum sum) removed m f) (did SumTooLarge removed m))
+        go true n = stored (most_rounds Set) clock (item_of clock key 3 sum [] lifetime 0) (Sum sum) refl removed m f h n
         go false n = h
 
-    incr_live_is : (i : ℕ) (number : Bool) (sum : ℤ) → Keeps (cond number (incr_live removed m i sum) (did (Err NotNumber) removed m))
+    incr_live_is : (i : ℕ) (number : Bool) (sum : ℤ) → Keeps (cond number (incr_live removed m i sum) (did NotNumber removed m))
     unfolding incr_live fields_of
     incr_live_is i false sum n = h
     incr_live_is i true sum n = go (in_range sum) n
       where
-        go : (b : Bool) → Keeps (cond b (did (Ok (Sum sum)) removed (add_at i sum m)) (did (Err SumTooLarge) removed m))
+        go : (b : Bool) → Keeps (cond b (did (Sum sum) removed (add_at i sum m)) (did SumTooLarge removed m))
         go true n = absurd (n refl)
         go false n = h
 

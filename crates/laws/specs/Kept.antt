@@ -9,10 +9,9 @@ use Rattle.std.proofs.Math.Dec.{eqb}
 use Rattle.std.proofs.Math.ListN.{length}
 use Rattle.std.proofs.lemmas.Bool.{eqb-false}
 use Rattle.rules.specs.declared.Entry.{Entry}
-use Rattle.rules.specs.Outcome.{Outcome}
-use Rattle.rules.specs.declared.Reply.TheVariants.{Done, Sum}
-use Rattle.rules.specs.declared.Refusal.TheVariants.{SumTooLarge, NotNumber}
-use Rattle.rules.specs.Outcome.{Check}
+use Rattle.rules.specs.declared.Outcome.{Outcome}
+use Rattle.rules.specs.declared.Outcome.TheVariants.{Done, Sum, SumTooLarge, NotNumber}
+use Rattle.rules.specs.Check.{Check}
 use Rattle.rules.specs.declared.Found.{Found}
 use Rattle.rules.specs.declared.Found.TheVariants.{Live, Dead, Missing}
 use Rattle.rules.specs.declared.Operation.{Operation}
@@ -129,9 +128,9 @@ module _ (P : ℕ) (Inv : Memory → Type 0) (Open : List ℕ → Memory → Typ
     store_admitted_is removed m f (Err o) w h = h
     store_admitted_is removed m f (Ok _) w h = go (eqb item.kind 0) refl
       where
-        go : (b : Bool) → eqb item.kind 0 ≡ b → Inv (cond b (delete_found removed m f) (store_item (most_rounds op) clock item (Ok Done) removed m f)).memory
+        go : (b : Bool) → eqb item.kind 0 ≡ b → Inv (cond b (delete_found removed m f) (store_item (most_rounds op) clock item Done removed m f)).memory
         go true e = delete_found_is removed m f h
-        go false e = store_item_is clock item (Ok Done) removed (fi (eqb-false item.kind 0 e)) (most_rounds op) m f w h
+        go false e = store_item_is clock item Done removed (fi (eqb-false item.kind 0 e)) (most_rounds op) m f w h
 
     pub store_kept : (m : Memory) → Inv m → Inv (store_work op clock item m).memory
     unfolding store_work after_sweep store_found
@@ -146,7 +145,7 @@ module _ (P : ℕ) (Inv : Memory → Type 0) (Open : List ℕ → Memory → Typ
   unfolding incr_live
   incr_live_is removed m i sum l t h = go (in_range sum)
     where
-      go : (b : Bool) → Inv (cond b (did (Ok (Sum sum)) removed (add_at i sum m)) (did (Err SumTooLarge) removed m)).memory
+      go : (b : Bool) → Inv (cond b (did (Sum sum) removed (add_at i sum m)) (did SumTooLarge removed m)).memory
       go true = k.adds i sum m l t h
       go false = h
 
@@ -155,8 +154,8 @@ module _ (P : ℕ) (Inv : Memory → Type 0) (Open : List ℕ → Memory → Typ
     unfolding incr_new item_of
     incr_new_is lifetime removed m f sum w h = go (in_range sum)
       where
-        go : (b : Bool) → Inv (cond b (store_item (most_rounds Set) clock (item_of clock key 3 sum [] lifetime 0) (Ok (Sum sum)) removed m f) (did (Err SumTooLarge) removed m)).memory
-        go true = store_item_is clock (item_of clock key 3 sum [] lifetime 0) (Ok (Sum sum)) removed (fi lifetime sum) (most_rounds Set) m f w h
+        go : (b : Bool) → Inv (cond b (store_item (most_rounds Set) clock (item_of clock key 3 sum [] lifetime 0) (Sum sum) removed m f) (did SumTooLarge removed m)).memory
+        go true = store_item_is clock (item_of clock key 3 sum [] lifetime 0) (Sum sum) removed (fi lifetime sum) (most_rounds Set) m f w h
         go false = h
 
     incr_initial_is : (removed : ℕ) (m : Memory) (f : Found) (initial : Option Initial) → Finds key m f → Inv m → Inv (incr_initial clock key step removed m f initial).memory
@@ -170,7 +169,7 @@ module _ (P : ℕ) (Inv : Memory → Type 0) (Open : List ℕ → Memory → Typ
     incr_found_is initial removed m Missing w h = incr_initial_is removed m Missing initial w h
     incr_found_is initial removed m (Live i) w h = go (eqb (entry_in m i).kind 3) refl
       where
-        go : (b : Bool) → eqb (entry_in m i).kind 3 ≡ b → Inv (cond b (incr_live removed m i (number_at m.pool (entry_in m i) +ℤ step)) (did (Err NotNumber) removed m)).memory
+        go : (b : Bool) → eqb (entry_in m i).kind 3 ≡ b → Inv (cond b (incr_live removed m i (number_at m.pool (entry_in m i) +ℤ step)) (did NotNumber removed m)).memory
         go true e = incr_live_is removed m i (number_at m.pool (entry_in m i) +ℤ step) w.there (eqb-true (entry_in m i).kind 3 e) h
         go false e = h
 

@@ -2,7 +2,7 @@
 use Rattle.std.specs.Prelude.{◌≡◌, refl, Bool, true, false, not, cond, List, [], ℕ, length, Err, Ok}
 use Rattle.std.proofs.Common.{arith}
 use Rattle.std.proofs.lemmas.List.{length-replicate}
-use Rattle.rules.specs.declared.Refusal.TheVariants.{NotSound}
+use Rattle.rules.specs.declared.Outcome.TheVariants.{NotSound}
 use Rattle.rules.specs.Layout.{cells_of, memory_of}
 use Rattle.laws.specs.LayoutLaws.{length_encode}
 use Rattle.rules.specs.Soundness.{sound, right_lengths}

@@ -1,13 +1,12 @@
 -- Make fresh: refused for its lengths, or done.
-use Rattle.std.specs.Prelude.{◌≡◌, Bool, true, false, not, ℕ, suc, ◌+◌, ◌-◌, ◌≤◌, length, drop, set, replicate, Ok, Err}
+use Rattle.std.specs.Prelude.{◌≡◌, Bool, true, false, not, ℕ, suc, ◌+◌, ◌-◌, ◌≤◌, length, drop, set, replicate}
 use Rattle.std.proofs.Math.Path.{sym}
 use Rattle.std.proofs.Common.{ap, ◌∙◌, arith, drop_of_length-le}
 use mathlib.Core.List.{List, [], ◌∷◌, ◌++◌, append-nil}
 use Rattle.std.proofs.lemmas.List.{length-replicate}
 use borrow.Author.Tests.{not-true, not-false}
 use Rattle.rules.specs.declared.Answer.{Answer}
-use Rattle.rules.specs.declared.Reply.TheVariants.{Done}
-use Rattle.rules.specs.declared.Refusal.TheVariants.{NotSound}
+use Rattle.rules.specs.declared.Outcome.TheVariants.{Done, NotSound}
 use Rattle.rules.specs.Layout.{flat, encode, put, memory_of}
 use Rattle.rules.specs.Soundness.{right_lengths}
 use Rattle.rules.specs.Answer.{plain}
@@ -37,12 +36,12 @@ no_bytes pool =
     ap (λ (l : List ℕ). zeros ++ l) (drop_of_length-le pool {i = 0 + length zeros} (omega arith)) ∙ append-nil zeros
 
 module _ (dir pool : List ℕ) (r : Bool) (a : Answer) (t : r ≡ right_lengths dir pool) where
-  pub fresh_refused : not r ≡ true → a ≡ plain (Err NotSound) 0 → gave a dir pool ≡ fresh_call dir pool
+  pub fresh_refused : not r ≡ true → a ≡ plain NotSound 0 → gave a dir pool ≡ fresh_call dir pool
   unfolding fresh_call check_lengths refuse call
   fresh_refused n e = rw (e, sym t, not-true r n)
 
-  pub fresh_done : {cleared wiped : List ℕ} → not r ≡ false → a ≡ plain (Ok Done) 0 → cleared ≡ put dir 1 (replicate (length dir - 1) 0) → wiped ≡ put pool 0 (replicate (length pool) 0) → gave a (set cleared 0 1) wiped ≡ fresh_call dir pool
+  pub fresh_done : {cleared wiped : List ℕ} → not r ≡ false → a ≡ plain Done 0 → cleared ≡ put dir 1 (replicate (length dir - 1) 0) → wiped ≡ put pool 0 (replicate (length pool) 0) → gave a (set cleared 0 1) wiped ≡ fresh_call dir pool
   unfolding fresh_call check_lengths refuse call fresh_work memory_of
   fresh_done n e w z =
       let l : Lengths dir pool = lengths_are dir pool (sym t ∙ not-false r n) in
-      rw (e, w, z, no_bytes pool, sym t, not-false r n) (ap (λ (d : List ℕ). gave (plain (Ok Done) 0) d (replicate (length pool) 0)) (empty_words dir (omega (arith, l.dir_size))))
+      rw (e, w, z, no_bytes pool, sym t, not-false r n) (ap (λ (d : List ℕ). gave (plain Done 0) d (replicate (length pool) 0)) (empty_words dir (omega (arith, l.dir_size))))

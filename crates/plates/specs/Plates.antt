@@ -1,8 +1,7 @@
 -- Chapter "Plates on both sides": P1 to P12, as one table under a single statement, computed. P = 4.
-use Rattle.std.specs.Prelude.{◌≡◌, refl, true, false, List, [], ◌∷◌, ◌++◌, map, ℕ, replicate, get_or, pos, Ok, Err}
+use Rattle.std.specs.Prelude.{◌≡◌, refl, true, false, List, [], ◌∷◌, ◌++◌, map, ℕ, replicate, get_or, pos}
 use Rattle.rules.specs.declared.Entry.{Entry}
-use Rattle.rules.specs.declared.Reply.TheVariants.{Done, Number, Count}
-use Rattle.rules.specs.declared.Refusal.TheVariants.{KeyEmpty, NotFound, NoMemory}
+use Rattle.rules.specs.declared.Outcome.TheVariants.{Done, Number, Count, KeyEmpty, NotFound, NoMemory}
 use Rattle.rules.specs.declared.Operation.{Operation}
 use Rattle.rules.specs.declared.Operation.TheVariants.{Set, SafeSet}
 use Rattle.rules.specs.Layout.{need, encode, decode, flat, entries_of, without, to_front, put, key_of, number_bytes, number_at, memory_of, wiped, remove, remove_oldest, move_to_front}
@@ -99,11 +98,11 @@ pub record Plates : Type 0 where
   -- Need for 1, 32, 33, 64, 65 bytes: 1, 1, 2, 2, 3
   pub p1 : map need (1 ∷ 32 ∷ 33 ∷ 64 ∷ 65 ∷ []) ≡ 1 ∷ 1 ∷ 2 ∷ 2 ∷ 3 ∷ []
   -- record 1500, 3, 0, 0, 4, 8
-  pub p2 : (stored.answer ≡ plain (Ok Done) 0) × (stored.dir ≡ 1 ∷ 1 ∷ 1500 ∷ 3 ∷ 0 ∷ 0 ∷ 4 ∷ 8 ∷ replicate 18 0)
+  pub p2 : (stored.answer ≡ plain Done 0) × (stored.dir ≡ 1 ∷ 1 ∷ 1500 ∷ 3 ∷ 0 ∷ 0 ∷ 4 ∷ 8 ∷ replicate 18 0)
   -- get at 1499: live. ttl at 1499: 1
-  pub p3 : ((get_call stored.dir stored.pool 1499 AB12).answer ≡ plain (Ok (Number 0 (pos 14200) 4)) 0) × (ttl_call stored.dir stored.pool 1499 AB12 ≡ plain (Ok (Count 1)) 0)
+  pub p3 : ((get_call stored.dir stored.pool 1499 AB12).answer ≡ plain (Number 0 (pos 14200) 4) 0) × (ttl_call stored.dir stored.pool 1499 AB12 ≡ plain (Count 1) 0)
   -- Get at 1500 instead: 8, removed 1, no entries
-  pub p4 : ((get_call stored.dir stored.pool 1500 AB12).answer ≡ plain (Err NotFound) 1) × ((get_call stored.dir stored.pool 1500 AB12).dir ≡ fresh.dir)
+  pub p4 : ((get_call stored.dir stored.pool 1500 AB12).answer ≡ plain NotFound 1) × ((get_call stored.dir stored.pool 1500 AB12).dir ≡ fresh.dir)
   -- rounds 1, start 0; order e, d, c, b
   pub p5 : (rounds (number Set full e) ≡ 1) × (start (number Set full e) ≡ 0) × (order (number Set full e) ≡ e ∷ d ∷ c ∷ b ∷ [])
   -- two cells: rounds 2, start 0; order e, d, c
@@ -113,15 +112,15 @@ pub record Plates : Type 0 where
   -- the sweep takes none; rounds 1, removed 3, d stays
   pub p8 : (sweep_count 1000 (memory_of full8 cells) ≡ 0) × (rounds (number Set full8 e) ≡ 1) × (removed (number Set full8 e) ≡ 3) × (order (number Set full8 e) ≡ e ∷ d ∷ [])
   -- five cells: 12; request 9: "P9 now leaves all four entries", rounds 0, removed 0
-  pub p9 : text Set full e 140 ≡ record { answer = plain (Err NoMemory) 0; dir = full; pool = cells }
+  pub p9 : text Set full e 140 ≡ record { answer = plain NoMemory 0; dir = full; pool = cells }
   -- safe_set e: 12, unchanged
-  pub p10 : number SafeSet full e ≡ record { answer = plain (Err NoMemory) 0; dir = full; pool = cells }
+  pub p10 : number SafeSet full e ≡ record { answer = plain NoMemory 0; dir = full; pool = cells }
   -- safe_set a, two cells: 12, and a is gone
-  pub p11 : ((text SafeSet full a 40).answer ≡ plain (Err NoMemory) 0) × (order (text SafeSet full a 40) ≡ d ∷ c ∷ b ∷ [])
+  pub p11 : ((text SafeSet full a 40).answer ≡ plain NoMemory 0) × (order (text SafeSet full a 40) ≡ d ∷ c ∷ b ∷ [])
   -- b overwritten with equal length: start 1; order b, d, c, a
-  pub p12 : ((number Set full b).answer ≡ plain (Ok Done) 0) × (start (number Set full b) ≡ 1) × (order (number Set full b) ≡ b ∷ d ∷ c ∷ a ∷ [])
+  pub p12 : ((number Set full b).answer ≡ plain Done 0) × (start (number Set full b) ≡ 1) × (order (number Set full b) ≡ b ∷ d ∷ c ∷ a ∷ [])
   -- request 3: "The sweep takes a and b, round 1 takes c, it is stored at 0, removed 3, and forced is not set"; where a live one goes, as in P5, it is
-  pub request3 : ((text Set stale3 e 70).answer ≡ record { rounds = 1; removed = 3; forced = false; stale = false; outcome = (Ok Done) }) × (start (text Set stale3 e 70) ≡ 0) × (order (text Set stale3 e 70) ≡ e ∷ d ∷ []) × ((number Set full e).answer.forced ≡ true)
+  pub request3 : ((text Set stale3 e 70).answer ≡ record { rounds = 1; removed = 3; forced = false; stale = false; outcome = Done }) × (start (text Set stale3 e 70) ≡ 0) × (order (text Set stale3 e 70) ≡ e ∷ d ∷ []) × ((number Set full e).answer.forced ≡ true)
   -- request 2: "Make fresh now zeroes the whole pool"; the sweep of P4 and the removal of P11, which answer 8 and 12, wipe too; the overwrite of P12 "wipes nothing"
   pub request2 : (fresh.pool ≡ replicate 128 0) × ((get_call stored.dir stored.pool 1500 AB12).pool ≡ replicate 128 0) × ((text SafeSet full a 40).pool ≡ put cells 0 (replicate 32 0)) × ((number Set full b).pool ≡ put cells 33 (number_bytes (pos 9000)))
 
@@ -143,13 +142,13 @@ blank = get_after expired 1500 []
 
 -- the answers, line by line
 pub record Example : Type 0 where
-  pub line1 : fresh.answer ≡ plain (Ok Done) 0
-  pub line2 : stored.answer ≡ plain (Ok Done) 0
-  pub line3 : seen.answer ≡ plain (Ok (Number 0 (pos 14200) 4)) 0
+  pub line1 : fresh.answer ≡ plain Done 0
+  pub line2 : stored.answer ≡ plain Done 0
+  pub line3 : seen.answer ≡ plain (Number 0 (pos 14200) 4) 0
   -- its cells are wiped
-  pub line4 : (expired.answer ≡ plain (Err NotFound) 1) × (expired.pool ≡ replicate 128 0)
+  pub line4 : (expired.answer ≡ plain NotFound 1) × (expired.pool ≡ replicate 128 0)
   -- a blank key, after that: it matches nothing
-  pub line5 : blank.answer ≡ plain (Err KeyEmpty) 0
+  pub line5 : blank.answer ≡ plain KeyEmpty 0
 
 pub example : Example
 unfolding encode flat decode entries_of without to_front put key_of number_bytes number_at memory_of wiped remove remove_oldest move_to_front dead expiry_of too_late time_left same key_is found_from look_up deads after gone sweep_count sweep holds held free_run fit_from first_free run every any right_lengths value_fits entry_sound none_shared sound ◌then◌ refuse check_lengths check_sound check_clock check_key check_kind takes_nil check_nil check_lifetime clock_checks key_checks store_checks call ask fresh_work fresh_call after_sweep shown get_found get_work get_call delete_found entry_for place_at rewrite_at overwrite_at searched is_placed if_room evicted any_live forced_by fit_outcome place_fit placed_by place_anew store_over store_item most_rounds admits boolean_byte value_given store_admitted store_found store_work item_of store_call ttl_found ttl_call

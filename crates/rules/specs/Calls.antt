@@ -4,10 +4,9 @@ use Rattle.std.specs.Int.Signed.{mag}
 use Rattle.rules.specs.declared.Entry.{Entry}
 use Rattle.rules.specs.declared.Row.{Row}
 use Rattle.rules.specs.declared.Answer.{Answer}
-use Rattle.rules.specs.Outcome.{Outcome}
-use Rattle.rules.specs.declared.Reply.TheVariants.{Done, Number, Boolean, Text, Count, Sum}
-use Rattle.rules.specs.declared.Refusal.TheVariants.{NotFound, Exists, NotNumber, SumTooLarge, NoMemory}
-use Rattle.rules.specs.Outcome.{Check}
+use Rattle.rules.specs.declared.Outcome.{Outcome}
+use Rattle.rules.specs.declared.Outcome.TheVariants.{Done, Number, Boolean, Text, Count, Sum, NotFound, Exists, NotNumber, SumTooLarge, NoMemory}
+use Rattle.rules.specs.Check.{Check}
 use Rattle.rules.specs.declared.Found.{Found}
 use Rattle.rules.specs.declared.Found.TheVariants.{Live, Dead, Missing}
 use Rattle.rules.specs.declared.Operation.{Operation}
@@ -58,19 +57,19 @@ pub record Does (w : Work) (n : ℕ) (answered : Answer) (dir pool : List ℕ) :
 
 -- a refusal by the checks 1 to 7 leaves the memory "unchanged", and its fields are 0
 unfoldable pub call : Check → (Memory → Work) → List ℕ → List ℕ → Result
-call (Err o) work dir pool = gave (plain (Err o) 0) dir pool
+call (Err o) work dir pool = gave (plain o 0) dir pool
 call (Ok _) work dir pool = written (length dir) (work (memory_of dir pool))
 
 -- a call that changes nothing
 unfoldable pub ask : Check → (Memory → Answer) → List ℕ → List ℕ → Answer
-ask (Err o) work dir pool = plain (Err o) 0
+ask (Err o) work dir pool = plain o 0
 ask (Ok _) work dir pool = work (memory_of dir pool)
 
 -- ---- make fresh
 
 -- "takes any contents of the right lengths, writes the empty directory", and by request 2 of document 02 "zeroes the whole pool"
 unfoldable pub fresh_work : Memory → Work
-fresh_work m = did (Ok Done) 0 (record { entries = []; pool = replicate (length m.pool) 0 })
+fresh_work m = did Done 0 (record { entries = []; pool = replicate (length m.pool) 0 })
 
 unfoldable pub fresh_call : List ℕ → List ℕ → Result
 fresh_call dir pool = call (check_lengths dir pool) fresh_work dir pool
@@ -86,15 +85,15 @@ after_sweep clock work m = work (sweep_count clock m) (sweep clock m)
 -- "for readers the kind, flags, number, and the value's offset and length in the pool"
 unfoldable pub shown : List ℕ → Entry → Outcome
 shown pool e =
-    cond (eqb e.kind 1) (Ok (Boolean e.flags (not (eqb (get_or pool (value_offset e) 0) 0)) (value_offset e)))
-    (cond (eqb e.kind 3) (Ok (Number e.flags (number_at pool e) (value_offset e)))
-    (Ok (Text e.flags (value_offset e) e.vlen)))
+    cond (eqb e.kind 1) (Boolean e.flags (not (eqb (get_or pool (value_offset e) 0) 0)) (value_offset e))
+    (cond (eqb e.kind 3) (Number e.flags (number_at pool e) (value_offset e))
+    (Text e.flags (value_offset e) e.vlen))
 
 -- "live entry, answer it and move it to the front; else 8"
 unfoldable pub get_found : ℕ → Memory → Found → Work
 get_found removed m (Live i) = did (shown m.pool (entry_in m i)) removed (move_to_front i m)
-get_found removed m (Dead i) = did (Err NotFound) removed m
-get_found removed m Missing = did (Err NotFound) removed m
+get_found removed m (Dead i) = did NotFound removed m
+get_found removed m Missing = did NotFound removed m
 
 unfoldable pub get_work : ℕ → List ℕ → Memory → Work
 get_work clock key = after_sweep clock (λ removed m. get_found removed m (look_up clock key m))
@@ -106,7 +105,7 @@ get_call dir pool clock key = call (key_checks dir pool clock key) (get_work clo
 unfoldable pub stale_found : Memory → Found → Answer
 stale_found m (Live i) = marked (shown m.pool (entry_in m i)) false
 stale_found m (Dead i) = marked (shown m.pool (entry_in m i)) true
-stale_found m Missing = plain (Err NotFound) 0
+stale_found m Missing = plain NotFound 0
 
 unfoldable pub get_stale_call : List ℕ → List ℕ → ℕ → List ℕ → Answer
 get_stale_call dir pool clock key = ask (key_checks dir pool clock key) (λ m. stale_found m (look_up clock key m)) dir pool
@@ -115,9 +114,9 @@ get_stale_call dir pool clock key = ask (key_checks dir pool clock key) (λ m. s
 
 -- "removes the entry, live or dead, and answers 0 also when nothing was there"
 unfoldable pub delete_found : ℕ → Memory → Found → Work
-delete_found removed m (Live i) = did (Ok Done) removed (remove i m)
-delete_found removed m (Dead i) = did (Ok Done) removed (remove i m)
-delete_found removed m Missing = did (Ok Done) removed m
+delete_found removed m (Live i) = did Done removed (remove i m)
+delete_found removed m (Dead i) = did Done removed (remove i m)
+delete_found removed m Missing = did Done removed m
 
 unfoldable pub delete_work : ℕ → List ℕ → Memory → Work
 delete_work clock key = after_sweep clock (λ removed m. delete_found removed m (look_up clock key m))
@@ -183,7 +182,7 @@ forced_by clock p m = is_placed p.fit && any_live clock (evicted clock p m)
 -- done, or "no memory"
 unfoldable pub fit_outcome : Outcome → Option ℕ → Outcome
 fit_outcome told (Some start) = told
-fit_outcome told None = Err NoMemory
+fit_outcome told None = NoMemory
 
 unfoldable pub place_fit : Item → Option ℕ → Memory → Memory
 place_fit item (Some start) m = place_at item start m
@@ -251,9 +250,9 @@ value_given kind number text = cond (eqb kind 1) (boolean_byte number ∷ []) (c
 
 -- "Nil in set or safe_set is delete"
 unfoldable pub store_admitted : Operation → ℕ → Item → ℕ → Memory → Found → Check → Work
-store_admitted op clock item removed m found (Err o) = did (Err o) removed m
+store_admitted op clock item removed m found (Err o) = did o removed m
 store_admitted op clock item removed m found (Ok _) =
-    cond (eqb item.kind 0) (delete_found removed m found) (store_item (most_rounds op) clock item (Ok Done) removed m found)
+    cond (eqb item.kind 0) (delete_found removed m found) (store_item (most_rounds op) clock item Done removed m found)
 
 unfoldable pub store_found : Operation → ℕ → Item → ℕ → Memory → Found → Work
 store_found op clock item removed m found = store_admitted op clock item removed m found (admits op found)
@@ -283,24 +282,24 @@ add_at i sum m = rewrite_at i (entry_in m i) (number_bytes sum) m
 
 -- "A sum out of range is 11, before anything but the sweep has changed"
 unfoldable pub incr_live : ℕ → Memory → ℕ → ℤ → Work
-incr_live removed m i sum = cond (in_range sum) (did (Ok (Sum sum)) removed (add_at i sum m)) (did (Err SumTooLarge) removed m)
+incr_live removed m i sum = cond (in_range sum) (did (Sum sum) removed (add_at i sum m)) (did SumTooLarge removed m)
 
 -- "store initial + step, flags 0, as a plain set would"
 unfoldable pub incr_new : ℕ → List ℕ → ℕ → ℕ → Memory → Found → ℤ → Work
 incr_new clock key lifetime removed m found sum =
     cond (in_range sum)
-    (store_item (most_rounds Set) clock (item_of clock key 3 sum [] lifetime 0) (Ok (Sum sum)) removed m found)
-    (did (Err SumTooLarge) removed m)
+    (store_item (most_rounds Set) clock (item_of clock key 3 sum [] lifetime 0) (Sum sum) removed m found)
+    (did SumTooLarge removed m)
 
 -- "Missing or dead with an initial number"; "else 8"
 unfoldable pub incr_initial : ℕ → List ℕ → ℤ → ℕ → Memory → Found → Option Initial → Work
 incr_initial clock key step removed m found (Some initial) = incr_new clock key initial.lifetime removed m found (initial.number +ℤ step)
-incr_initial clock key step removed m found None = did (Err NotFound) removed m
+incr_initial clock key step removed m found None = did NotFound removed m
 
 -- "Live and not kind 3: 10"
 unfoldable pub incr_found : ℕ → List ℕ → ℤ → Option Initial → ℕ → Memory → Found → Work
 incr_found clock key step initial removed m (Live i) =
-    cond (eqb (entry_in m i).kind 3) (incr_live removed m i (number_at m.pool (entry_in m i) +ℤ step)) (did (Err NotNumber) removed m)
+    cond (eqb (entry_in m i).kind 3) (incr_live removed m i (number_at m.pool (entry_in m i) +ℤ step)) (did NotNumber removed m)
 incr_found clock key step initial removed m (Dead i) = incr_initial clock key step removed m (Dead i) initial
 incr_found clock key step initial removed m Missing = incr_initial clock key step removed m Missing initial
 
@@ -314,9 +313,9 @@ incr_call dir pool clock key step initial = call (incr_checks dir pool clock key
 
 -- "0 if it never expires, else expiry − clock; missing or dead gives 8"
 unfoldable pub ttl_found : ℕ → Memory → Found → Answer
-ttl_found clock m (Live i) = plain (Ok (Count (time_left clock (entry_in m i)))) 0
-ttl_found clock m (Dead i) = plain (Err NotFound) 0
-ttl_found clock m Missing = plain (Err NotFound) 0
+ttl_found clock m (Live i) = plain (Count (time_left clock (entry_in m i))) 0
+ttl_found clock m (Dead i) = plain NotFound 0
+ttl_found clock m Missing = plain NotFound 0
 
 unfoldable pub ttl_call : List ℕ → List ℕ → ℕ → List ℕ → Answer
 ttl_call dir pool clock key = ask (key_checks dir pool clock key) (λ m. ttl_found clock m (look_up clock key m)) dir pool
@@ -326,9 +325,9 @@ unfoldable pub expire_at : ℕ → ℕ → Memory → Memory
 expire_at i expiry m = record { entries = replace_at i (with_expiry expiry (entry_in m i)) m.entries; pool = m.pool }
 
 unfoldable pub expire_found : ℕ → Memory → Found → Work
-expire_found expiry m (Live i) = did (Ok Done) 0 (expire_at i expiry m)
-expire_found expiry m (Dead i) = did (Err NotFound) 0 m
-expire_found expiry m Missing = did (Err NotFound) 0 m
+expire_found expiry m (Live i) = did Done 0 (expire_at i expiry m)
+expire_found expiry m (Dead i) = did NotFound 0 m
+expire_found expiry m Missing = did NotFound 0 m
 
 unfoldable pub expire_call : List ℕ → List ℕ → ℕ → List ℕ → ℕ → Result
 expire_call dir pool clock key lifetime =
@@ -338,7 +337,7 @@ expire_call dir pool clock key lifetime =
 
 -- "flush_all sets every expiry to 1"
 unfoldable pub flush_all_work : Memory → Work
-flush_all_work m = did (Ok Done) 0 (record { entries = map (with_expiry 1) m.entries; pool = m.pool })
+flush_all_work m = did Done 0 (record { entries = map (with_expiry 1) m.entries; pool = m.pool })
 
 unfoldable pub flush_all_call : List ℕ → List ℕ → Result
 flush_all_call dir pool = call (check_sound dir pool) flush_all_work dir pool
@@ -359,7 +358,7 @@ unfoldable pub flush_expired_work : ℕ → ℕ → Memory → Work
 flush_expired_work clock maximum m =
     let n : ℕ = length m.entries in
     let after : Memory = flushed clock n (up_to maximum n) m in
-    did (Ok Done) (n - length after.entries) after
+    did Done (n - length after.entries) after
 
 unfoldable pub flush_expired_call : List ℕ → List ℕ → ℕ → ℕ → Result
 flush_expired_call dir pool clock maximum = call (clock_checks dir pool clock) (flush_expired_work clock maximum) dir pool
@@ -396,11 +395,11 @@ listing answer rows = record { answer = answer; rows = rows }
 unfoldable pub listed : ℕ → ℕ → List Row → Memory → Listing
 listed clock maximum rows m =
     let n : ℕ = key_count clock maximum (length rows) m in
-    record { answer = plain (Ok (Count n)) 0; rows = key_rows clock n m ++ drop n rows }
+    record { answer = plain (Count n) 0; rows = key_rows clock n m ++ drop n rows }
 
 -- "on a refusal all rows do"
 unfoldable pub keys_of : Check → ℕ → ℕ → List Row → Memory → Listing
-keys_of (Err o) clock maximum rows m = record { answer = plain (Err o) 0; rows = rows }
+keys_of (Err o) clock maximum rows m = record { answer = plain o 0; rows = rows }
 keys_of (Ok _) clock maximum rows m = listed clock maximum rows m
 
 unfoldable pub get_keys_call : List ℕ → List ℕ → ℕ → ℕ → List Row → Listing
@@ -422,10 +421,10 @@ flat_listing answer table = record { answer = answer; table = table }
 unfoldable pub listed_flat : ℕ → ℕ → List ℕ → Memory → FlatListing
 listed_flat clock maximum table m =
     let n : ℕ = key_count clock maximum (length table / 3) m in
-    record { answer = plain (Ok (Count n)) 0; table = row_words (key_rows clock n m) ++ drop (3 * n) table }
+    record { answer = plain (Count n) 0; table = row_words (key_rows clock n m) ++ drop (3 * n) table }
 
 unfoldable pub flat_keys_of : Check → ℕ → ℕ → List ℕ → Memory → FlatListing
-flat_keys_of (Err o) clock maximum table m = record { answer = plain (Err o) 0; table = table }
+flat_keys_of (Err o) clock maximum table m = record { answer = plain o 0; table = table }
 flat_keys_of (Ok _) clock maximum table m = listed_flat clock maximum table m
 
 unfoldable pub get_keys_flat_call : List ℕ → List ℕ → ℕ → ℕ → List ℕ → FlatListing

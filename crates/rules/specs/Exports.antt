@@ -3,7 +3,7 @@ use Rattle.std.specs.Prelude.{◌≡◌, Bool, cond, List, [], ◌∷◌, ℕ, l
 use Rattle.rules.specs.declared.Found.{Found}
 use Rattle.rules.specs.declared.Found.TheVariants.{Live, Dead, Missing}
 use Rattle.rules.specs.declared.Initial.{Initial}
-use Rattle.rules.specs.Outcome.{given}
+use Rattle.rules.specs.Check.{given}
 use Rattle.rules.specs.Layout.{value_offset, Memory, memory_of, entry_in}
 use Rattle.rules.specs.Answer.{answer_words}
 use Rattle.rules.specs.Checks.{key_checks}

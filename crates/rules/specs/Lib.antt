@@ -4,7 +4,7 @@ pub mod LookUp
 pub mod Recency
 pub mod Place
 pub mod Soundness
-pub mod Outcome
+pub mod Check
 pub mod Answer
 pub mod Checks
 pub mod Calls

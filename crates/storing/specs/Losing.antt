@@ -2,7 +2,7 @@
 use Rattle.std.specs.Prelude.{◌≡◌, List, ℕ, length, ℤ, Ok, Err}
 use Rattle.std.proofs.Common.{sym, subst, ◌∙◌}
 use Rattle.rules.specs.declared.Answer.{Answer}
-use Rattle.rules.specs.Outcome.{Check}
+use Rattle.rules.specs.Check.{Check}
 use Rattle.rules.specs.declared.Operation.{Operation}
 use Rattle.rules.specs.Layout.{memory_of}
 use Rattle.rules.specs.Answer.{plain}
@@ -11,7 +11,7 @@ use Rattle.rules.specs.LeastLoss.{LossOf, StoreLoses}
 use Rattle.rules.specs.Calls.{Result, gave, Does, item_of, store_work, store_call}
 use Rattle.laws.specs.CallsLaws.{gave_refused, gave_passed}
 use Rattle.laws.specs.Demand.{store_loses}
-use Rattle.rules.specs.declared.Refusal.{Refusal}
+use Rattle.rules.specs.declared.Outcome.{Outcome}
 
 module _ (op : Operation) (dir pool : List ℕ) (clock : ℕ) (key : List ℕ) (kind : ℕ) (number : ℤ) (text : List ℕ) (lifetime flags : ℕ) where
   abbrev is_call : Result → Type 0
@@ -21,7 +21,7 @@ module _ (op : Operation) (dir pool : List ℕ) (clock : ℕ) (key : List ℕ) (
   pub losing : {r : Result} → is_call r → is_call r × StoreLoses op dir pool clock key kind number text lifetime flags r
   losing e = (e, λ p. subst (LossOf op clock (item_of clock key kind number text lifetime flags) dir pool) (sym e) (store_loses op dir pool clock key kind number text lifetime flags p))
 
-  pub store_refused : (c : Check) (o : Refusal) (a : Answer) → c ≡ store_checks op dir pool clock key kind lifetime → c ≡ Err o → a ≡ plain (Err o) 0 → is_call (gave a dir pool) × StoreLoses op dir pool clock key kind number text lifetime flags (gave a dir pool)
+  pub store_refused : (c : Check) (o : Outcome) (a : Answer) → c ≡ store_checks op dir pool clock key kind lifetime → c ≡ Err o → a ≡ plain o 0 → is_call (gave a dir pool) × StoreLoses op dir pool clock key kind number text lifetime flags (gave a dir pool)
   unfolding store_call
   store_refused c o a e p q = losing (gave_refused (store_checks op dir pool clock key kind lifetime) (store_work op clock (item_of clock key kind number text lifetime flags)) dir pool o a (sym e ∙ p) q)
 

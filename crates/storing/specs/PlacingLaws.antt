@@ -7,8 +7,8 @@ use Prim.Native.Nat.{ℕ, ◌+◌, ◌*◌, ◌≤◌}
 use Rattle.std.proofs.Math.ListN.{length, length-append, length-reverse}
 use Rattle.rules.specs.declared.Entry.{Entry}
 use Rattle.rules.specs.declared.Answer.{Answer}
-use Rattle.rules.specs.Outcome.{Outcome}
-use Rattle.rules.specs.declared.Refusal.TheVariants.{NoMemory}
+use Rattle.rules.specs.declared.Outcome.{Outcome}
+use Rattle.rules.specs.declared.Outcome.TheVariants.{NoMemory}
 use Rattle.rules.specs.Layout.{cells_of, encode, entries_of, put, Memory, memory_of, remove_oldest}
 use Rattle.rules.specs.Recency.{line, left, gone}
 use Rattle.rules.specs.Place.{held, Placed, run}
@@ -125,7 +125,7 @@ module _ (dir pool : List ℕ) (t : sound dir pool ≡ true) (clock most : ℕ) 
         })
 
 -- no place: nothing is gone by rounds
-pub none_does : (dir pool : List ℕ) (t : sound dir pool ≡ true) (clock most : ℕ) (item : Item) → Chosen clock (cells_of pool) (need_for item) most (line (memory_of dir pool)) None → (told : Outcome) (swept : ℕ) (a : Answer) → a ≡ plain (Err NoMemory) swept → Does (place_anew most clock item told swept (memory_of dir pool)) (length dir) a dir pool
+pub none_does : (dir pool : List ℕ) (t : sound dir pool ≡ true) (clock most : ℕ) (item : Item) → Chosen clock (cells_of pool) (need_for item) most (line (memory_of dir pool)) None → (told : Outcome) (swept : ℕ) (a : Answer) → a ≡ plain NoMemory swept → Does (place_anew most clock item told swept (memory_of dir pool)) (length dir) a dir pool
 unfolding fit_outcome place_fit is_placed remove_oldest
 none_does dir pool t clock most item c told swept a q =
     let h : Holds (length dir) (memory_of dir pool) dir pool = holds_itself dir pool (given_sound dir pool t).dir_is in

@@ -2,7 +2,7 @@
 use Rattle.std.specs.Prelude.{◌≡◌, refl, Bool, true, false, List, [], ◌∷◌, ℕ, ◌≤◌, length, ℤ, eqb, Ok}
 use Rattle.std.proofs.Common.{sym, ap, subst, true≢false, arith, eqb-true, ne_eqb}
 use Rattle.rules.specs.declared.Answer.{Answer}
-use Rattle.rules.specs.declared.Reply.TheVariants.{Done}
+use Rattle.rules.specs.declared.Outcome.TheVariants.{Done}
 use Rattle.rules.specs.declared.Found.{Found}
 use Rattle.rules.specs.declared.Operation.{Operation}
 use Rattle.rules.specs.declared.Operation.TheVariants.{Set, SafeSet, Add, SafeAdd, Replace}

@@ -7,9 +7,9 @@ use Rattle.std.proofs.Math.Dec.{eqb}
 use borrow.Author.Tests.{eq-eqb, ne_eqb}
 use Rattle.rules.specs.declared.Entry.{Entry}
 use Rattle.rules.specs.declared.Answer.{Answer}
-use Rattle.rules.specs.Outcome.{Outcome}
-use Rattle.rules.specs.declared.Reply.TheVariants.{Done}
-use Rattle.rules.specs.Outcome.{Check}
+use Rattle.rules.specs.declared.Outcome.{Outcome}
+use Rattle.rules.specs.declared.Outcome.TheVariants.{Done}
+use Rattle.rules.specs.Check.{Check}
 use Rattle.rules.specs.declared.Found.{Found}
 use Rattle.rules.specs.declared.Found.TheVariants.{Live, Dead, Missing}
 use Rattle.rules.specs.declared.Operation.{Operation}
@@ -21,7 +21,6 @@ use Rattle.rules.specs.Calls.{Holds, Work, did, Does, Item, entry_for, rewrite_a
 use Rattle.laws.specs.Bytes.{fits_kind, FineItem}
 use Rattle.laws.specs.Booleans.{no_bool}
 use Rattle.laws.specs.Buffers.{does_is, does_behind, holds_itself, step_length, removed_sound}
-use Rattle.rules.specs.declared.Refusal.{Refusal}
 
 -- ---- over the key's own entry
 
@@ -69,11 +68,11 @@ unfolding fits_kind
 not_nil item f z = no_bool (ap (λ (k : ℕ). fits_kind k (length item.value) item.value) (sym z) ∙ f.fits)
 
 module _ (op : Operation) (clock : ℕ) (item : Item) (swept : ℕ) (dir pool : List ℕ) (found f : Found) (c : Check) (x : found ≡ f) (y : c ≡ admits op found) where
-  pub found_refused : (o : Refusal) (a : Answer) → Dir dir → c ≡ Err o → a ≡ plain (Err o) swept → Does (store_found op clock item swept (memory_of dir pool) f) (length dir) a dir pool
+  pub found_refused : (o : Outcome) (a : Answer) → Dir dir → c ≡ Err o → a ≡ plain o swept → Does (store_found op clock item swept (memory_of dir pool) f) (length dir) a dir pool
   unfolding store_found store_admitted
   found_refused o a d e q = does_is (rw (sym x, sym y, e)) (record { answer = q; memory = holds_itself dir pool d })
 
-  pub found_passed : {most : ℕ} {told : Outcome} {a : Answer} {dir₁ pool₁ : List ℕ} → FineItem item → c ≡ (Ok tt) → most ≡ most_rounds op → told ≡ (Ok Done) → Does (store_item most clock item told swept (memory_of dir pool) found) (length dir) a dir₁ pool₁ → Does (store_found op clock item swept (memory_of dir pool) f) (length dir) a dir₁ pool₁
+  pub found_passed : {most : ℕ} {told : Outcome} {a : Answer} {dir₁ pool₁ : List ℕ} → FineItem item → c ≡ (Ok tt) → most ≡ most_rounds op → told ≡ Done → Does (store_item most clock item told swept (memory_of dir pool) found) (length dir) a dir₁ pool₁ → Does (store_found op clock item swept (memory_of dir pool) f) (length dir) a dir₁ pool₁
   unfolding store_found store_admitted
   found_passed fine e p q d = does_is (rw (sym x, sym y, e, ne_eqb item.kind 0 (not_nil item fine), p, q)) d
 

@@ -7,13 +7,13 @@ ghost use Rattle.rules.specs.LookUp.{look_up};
 ghost use Rattle.rules.specs.Soundness.{sound};
 ghost use Rattle.rules.specs.Calls.{Holds, Does, rewrite_at, place_at, place_anew, store_item, store_over, admits, most_rounds, store_found, store_work, gave};
 ghost use Rattle.rules.specs.Checks.{store_checks};
-ghost use Rattle.rules.specs.declared.Reply.TheVariants.{Done};
+ghost use Rattle.rules.specs.declared.Outcome.TheVariants.{Done};
 ghost use Rattle.rules.specs.declared.Operation.TheVariants.{Set, SafeSet, Add, SafeAdd, Replace};
 ghost use Rattle.storing.specs.Order.{item_from, Storable};
 ghost use Rattle.storing.specs.Given.{item_given, stored, Loses};
 ghost use Rattle.storing.specs.Placing.{Fits};
 
-use rules::{Answer, Entry, Found, Operation, Refusal, Reply};
+use rules::{Answer, Entry, Found, Operation, Outcome};
 
 // What a store is to store: a value of a kind, how long it lives, and its flags. Kinds 1 and 3 read the number, and kind 4 the text.
 #[derive(Clone, Copy)]
@@ -82,7 +82,7 @@ fn place_anew(dir: &mut [u64], pool: &mut [u8], clock: u64, order: Order) -> Ans
 {
     let need = values::need(order.key.len(), order.bytes.len());
     let Some(choice) = eviction::choose(dir, pool, clock, need, order.most) else {
-        return Answer::plain(Err(Refusal::NoMemory), order.removed);
+        return Answer::plain(Outcome::NoMemory, order.removed);
     };
     memory::remove_oldest(dir, pool, choice.gone);
     place_at(dir, pool, choice.start, order);
@@ -91,7 +91,7 @@ fn place_anew(dir: &mut [u64], pool: &mut [u8], clock: u64, order: Order) -> Ans
         removed: order.removed + choice.gone,
         forced: choice.live, // a live entry went
         stale: false,
-        outcome: Ok(order.told),
+        outcome: order.told,
     }
 }
 
@@ -117,7 +117,7 @@ fn store_over(dir: &mut [u64], pool: &mut [u8], clock: u64, order: Order, i: usi
         vlen: bytes.len() as u64,
     };
     rewrite_at(dir, pool, i, e, bytes);
-    Answer::plain(Ok(order.told), order.removed)
+    Answer::plain(order.told, order.removed)
 }
 
 // Stores bytes under a key, of which the look-up has found what it found.
@@ -140,12 +140,12 @@ pub fn store_item(
 }
 
 // replace wants a live entry, add none.
-fn admits(op: Operation, found: Found) -> Result<(), Refusal>
+fn admits(op: Operation, found: Found) -> Result<(), Outcome>
     ensures { result ≡ admits op found }
 {
     match (op, found) {
-        (Operation::Add | Operation::SafeAdd, Found::Live(_)) => Err(Refusal::Exists),
-        (Operation::Replace, Found::Dead(_) | Found::Missing) => Err(Refusal::NotFound),
+        (Operation::Add | Operation::SafeAdd, Found::Live(_)) => Err(Outcome::Exists),
+        (Operation::Replace, Found::Dead(_) | Found::Missing) => Err(Outcome::NotFound),
         _ => Ok(()),
     }
 }
@@ -169,7 +169,7 @@ fn store_swept(op: Operation, dir: &mut [u64], pool: &mut [u8], clock: u64, orde
 {
     let found = memory::look_up(dir, pool, clock, order.key);
     if let Err(refusal) = admits(op, found) {
-        return Answer::plain(Err(refusal), order.removed);
+        return Answer::plain(refusal, order.removed);
     }
     store_item(dir, pool, clock, order, found)
 }
@@ -203,7 +203,7 @@ pub fn store_in(
         kind: u64::from(value.kind),
         flags: u64::from(value.flags),
         most: most_rounds(op),
-        told: Reply::Done,
+        told: Outcome::Done,
         removed,
     };
     store_swept(op, dir, pool, clock, order)
@@ -222,7 +222,7 @@ pub fn store(
     ensures loss { Loses op dir.old pool.old clock key.now value.entry (gave result dir.new pool.new) }
 {
     if let Err(refusal) = checks::of_store(op, dir, pool, clock, key, value.kind, value.lifetime) {
-        return Answer::plain(Err(refusal), 0);
+        return Answer::plain(refusal, 0);
     }
     store_in(op, dir, pool, clock, key, value)
 }

@@ -1,18 +1,14 @@
 -- What an outcome tells, as plain numbers: the paper's fields, a signed number by its bits.
-use Rattle.std.specs.Prelude.{◌≡◌, Bool, true, false, cond, ℕ, ◌+◌, ◌<◌, ◌^◌, ℤ, pos, Ok, Err}
+use Rattle.std.specs.Prelude.{◌≡◌, Bool, true, false, cond, ℕ, ◌<◌, ◌^◌, ℤ, pos}
 use Rattle.std.proofs.Math.Path.{sym, ap}
-use mathlib.Core.Path.{refl}
 use Rattle.std.proofs.Common.{◌∙◌, arith}
 use Rattle.std.specs.Int.Signed.{mag}
 use mir.Syntax.{w64}
 use mir.Val.{bool_byte, to_z, of_z, SFits}
+use mathlib.Core.Path.{refl}
 use Rattle.std.proofs.Math.Facts.{to_z-of_z}
-use Rattle.rules.specs.Outcome.{Outcome}
-use Rattle.rules.specs.declared.Reply.TheVariants.{Number, Boolean, Text, Sum}
-use Rattle.rules.specs.declared.Refusal.{Refusal}
-use Rattle.rules.specs.declared.Refusal.TheVariants.{NotSound, ClockZero, KeyEmpty, KeyTooLong, KindUnknown, NilRefused, ExpiryTooLate, NotFound, Exists, NotNumber, SumTooLarge, NoMemory, LineUnreadable}
-use Rattle.rules.specs.contracts.Refusal.{the_type}
-use denote.Enum.Declared.{tag_of}
+use Rattle.rules.specs.declared.Outcome.{Outcome}
+use Rattle.rules.specs.declared.Outcome.TheVariants.{Number, Boolean, Text, Sum}
 use Rattle.rules.specs.Answer.{Fields, fields_of}
 use Rattle.values.specs.Bits.{held, bits_told}
 use Rattle.telling.specs.declared.Told.{Told}
@@ -62,44 +58,26 @@ small : (on : Bool) → SFits w64 (pos (cond on 1 0))
 small true = record { sfits = omega arith }
 small false = record { sfits = omega arith }
 
-pub text_told : {t : Told} {o : Outcome} {flags offset size : ℕ} → t ≡ value_told 4 flags 0 offset size → o ≡ Ok (Text flags offset size) → Tells o t
+pub text_told : {t : Told} {o : Outcome} {flags offset size : ℕ} → t ≡ value_told 4 flags 0 offset size → o ≡ Text flags offset size → Tells o t
 unfolding told_of fields_of
 text_told e q = fits_told e (record { sfits = omega arith }) q
 
 -- ---- an outcome whose number was made plain first
 
-pub boolean_told : {t : Told} {o : Outcome} {bits flags offset : ℕ} {on : Bool} → bits ≡ cond on 1 0 → t ≡ value_told 1 flags bits offset 1 → o ≡ Ok (Boolean flags on offset) → Tells o t
+pub boolean_told : {t : Told} {o : Outcome} {bits flags offset : ℕ} {on : Bool} → bits ≡ cond on 1 0 → t ≡ value_told 1 flags bits offset 1 → o ≡ Boolean flags on offset → Tells o t
 unfolding told_of fields_of
 boolean_told {flags = flags} {offset = offset} {on = on} b e q =
     fits_told (e ∙ ap (λ (x : ℕ). value_told 1 flags x offset 1) b) (small on) q
 
 module _ {t : Told} {o : Outcome} {bits : ℕ} {z : ℤ} (h : mag z < 2 ^ 63) (b : bits ≡ of_z w64 (held z)) where
-  pub number_told : {flags offset : ℕ} → t ≡ value_told 3 flags bits offset 8 → o ≡ Ok (Number flags z offset) → Tells o t
+  pub number_told : {flags offset : ℕ} → t ≡ value_told 3 flags bits offset 8 → o ≡ Number flags z offset → Tells o t
   unfolding told_of fields_of
   number_told {flags} {offset} e q =
       let f : SFits w64 z = record { sfits = h } in
       fits_told (e ∙ ap (λ (x : ℕ). value_told 3 flags x offset 8) (bits_told {x = z} f b)) f q
 
-  pub sum_told : t ≡ value_told 3 0 bits 0 0 → o ≡ Ok (Sum z) → Tells o t
+  pub sum_told : t ≡ value_told 3 0 bits 0 0 → o ≡ Sum z → Tells o t
   unfolding told_of fields_of
   sum_told e q =
       let f : SFits w64 z = record { sfits = h } in
       fits_told (e ∙ ap (λ (x : ℕ). value_told 3 0 x 0 0) (bits_told {x = z} f b)) f q
-
--- ---- a refusal, whose number is that of its variant
-
-pub refusal_told : (r : Refusal) → (only_told (tag_of the_type r + 1) ≡ told_of (Err r)) × ((fields_of (Err r)).kind ≡ 0)
-unfolding told_of fields_of
-refusal_told NotSound = (refl, refl)
-refusal_told ClockZero = (refl, refl)
-refusal_told KeyEmpty = (refl, refl)
-refusal_told KeyTooLong = (refl, refl)
-refusal_told KindUnknown = (refl, refl)
-refusal_told NilRefused = (refl, refl)
-refusal_told ExpiryTooLate = (refl, refl)
-refusal_told NotFound = (refl, refl)
-refusal_told Exists = (refl, refl)
-refusal_told NotNumber = (refl, refl)
-refusal_told SumTooLarge = (refl, refl)
-refusal_told NoMemory = (refl, refl)
-refusal_told LineUnreadable = (refl, refl)

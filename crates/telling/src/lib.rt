@@ -1,14 +1,14 @@
 // What an outcome tells, as plain numbers: the paper's fields, a signed number by its bits.
 #![tactic(auto)]
 
-ghost use Rattle.std.specs.Prelude.{◌≡◌, cond};
+ghost use Rattle.std.specs.Prelude.{◌≡◌};
 ghost use Rattle.telling.specs.Told.{only_told, value_told, told_of, ReadBack};
 
-use rules::{Refusal, Reply};
+use rules::Outcome;
 use values::to_bits;
 
 // An answer number, and what stands beside it: 0 where there is nothing to tell.
-#[derive(Clone, Copy)]
+#[derive(Clone, Copy, Debug, PartialEq, Eq)]
 pub struct Told {
     pub answer: u64,
     pub kind: u64,
@@ -39,43 +39,45 @@ fn value(kind: u64, flags: u32, bits: u64, offset: usize, size: usize) -> Told
     Told {
         answer: 0,
         kind,
-        flags: flags as u64,
+        flags: u64::from(flags),
         bits,
         offset: offset as u64,
         size: size as u64,
     }
 }
 
-// What a reply tells. Where a kind is told, its number can be read back from the bits.
-fn tell_reply(reply: Reply) -> Told
-    ensures value { result ≡ told_of (Ok reply) }
-    ensures read_back { ReadBack (Ok reply) result }
-{
-    match reply {
-        Reply::Done => only(0),
-        Reply::Number {
-            flags,
-            number,
-            offset,
-        } => value(3, flags, to_bits(number), offset, 8),
-        Reply::Boolean { flags, on, offset } => value(1, flags, u64::from(on), offset, 1),
-        Reply::Text {
-            flags,
-            offset,
-            size,
-        } => value(4, flags, 0, offset, size),
-        Reply::Count(n) => value(0, 0, n, 0, 0),
-        Reply::Sum(number) => value(3, 0, to_bits(number), 0, 0),
-    }
-}
-
-// What an outcome tells: a refusal its number alone.
-pub fn tell(outcome: Result<Reply, Refusal>) -> Told
+// What an outcome tells: a refusal its number alone. Where a kind is told, its number can be read back from the bits.
+pub fn tell(outcome: Outcome) -> Told
     ensures value { result ≡ told_of outcome }
     ensures read_back { ReadBack outcome result }
 {
     match outcome {
-        Ok(reply) => tell_reply(reply),
-        Err(refusal) => only(refusal as u64),
+        Outcome::Done => only(0),
+        Outcome::Number {
+            flags,
+            number,
+            offset,
+        } => value(3, flags, to_bits(number), offset, 8),
+        Outcome::Boolean { flags, on, offset } => value(1, flags, u64::from(on), offset, 1),
+        Outcome::Text {
+            flags,
+            offset,
+            size,
+        } => value(4, flags, 0, offset, size),
+        Outcome::Count(n) => value(0, 0, n, 0, 0),
+        Outcome::Sum(number) => value(3, 0, to_bits(number), 0, 0),
+        Outcome::NotSound => only(1),
+        Outcome::ClockZero => only(2),
+        Outcome::KeyEmpty => only(3),
+        Outcome::KeyTooLong => only(4),
+        Outcome::KindUnknown => only(5),
+        Outcome::NilRefused => only(6),
+        Outcome::ExpiryTooLate => only(7),
+        Outcome::NotFound => only(8),
+        Outcome::Exists => only(9),
+        Outcome::NotNumber => only(10),
+        Outcome::SumTooLarge => only(11),
+        Outcome::NoMemory => only(12),
+        Outcome::LineUnreadable => only(13),
     }
 }

@@ -2,7 +2,7 @@
 use Rattle.std.proofs.Common.{sym, ap, ◌∙◌, ◌≡◌, refl, arith, rules, w64, to_z, of_z, SFits}
 use Rattle.std.proofs.Math.Facts.{to_z-of_z}
 use Rattle.rules.specs.Layout.{number_bytes}
-use Rattle.rules.specs.declared.Reply.TheVariants.{Done}
+use Rattle.rules.specs.declared.Outcome.TheVariants.{Done}
 use Rattle.rules.specs.Calls.{value_given, boolean_byte, item_of}
 use Rattle.laws.specs.ChecksLaws.{store_passed}
 use Rattle.laws.specs.Carry.{store_fine}
