@@ -18,25 +18,22 @@ fn shown(pool: &[u8], e: Entry) -> Reply
 {
     let flags = e.flags as u32;
     let offset = 32 * e.start as usize + e.klen as usize;
-    let kind = e.kind;
-    if kind == 1 {
-        return Reply::Boolean {
+    match e.kind {
+        1 => Reply::Boolean {
             flags,
             on: pool[offset] != 0,
             offset,
-        };
-    }
-    if kind == 3 {
-        return Reply::Number {
+        },
+        3 => Reply::Number {
             flags,
             number: values::number_at(pool, e),
             offset,
-        };
-    }
-    Reply::Text {
-        flags,
-        offset,
-        size: e.vlen as usize,
+        },
+        _ => Reply::Text {
+            flags,
+            offset,
+            size: e.vlen as usize,
+        },
     }
 }
 
@@ -45,8 +42,7 @@ fn get_swept(dir: &mut [u64], pool: &[u8], clock: u64, key: &[u8], removed: usiz
     requires { sound dir.old pool.now ≡ true }
     ensures { Does (get_found removed (memory_of dir.old pool.now) (look_up clock key.now (memory_of dir.old pool.now))) (length dir.old) result dir.new pool.now }
 {
-    let found = memory::look_up(dir, pool, clock, key);
-    let Found::Live(i) = found else {
+    let Found::Live(i) = memory::look_up(dir, pool, clock, key) else {
         return Answer::plain(Err(Refusal::NotFound), removed);
     };
     let e = directory::record_at(dir, i);
@@ -68,8 +64,7 @@ pub fn get_in(dir: &mut [u64], pool: &mut [u8], clock: u64, key: &[u8]) -> Answe
 pub fn get(dir: &mut [u64], pool: &mut [u8], clock: u64, key: &[u8]) -> Answer
     ensures { gave result dir.new pool.new ≡ get_call dir.old pool.old clock key.now }
 {
-    let check = checks::of_key(dir, pool, clock, key);
-    if let Err(refusal) = check {
+    if let Err(refusal) = checks::of_key(dir, pool, clock, key) {
         return Answer::plain(Err(refusal), 0); // before the sweep
     }
     get_in(dir, pool, clock, key)
@@ -80,8 +75,7 @@ pub fn get_stale_in(dir: &[u64], pool: &[u8], clock: u64, key: &[u8]) -> Answer
     requires { sound dir.now pool.now ≡ true }
     ensures { result ≡ stale_found (memory_of dir.now pool.now) (look_up clock key.now (memory_of dir.now pool.now)) }
 {
-    let found = memory::look_up(dir, pool, clock, key);
-    match found {
+    match memory::look_up(dir, pool, clock, key) {
         Found::Live(i) => Answer::marked(Ok(shown(pool, directory::record_at(dir, i))), false),
         Found::Dead(i) => Answer::marked(Ok(shown(pool, directory::record_at(dir, i))), true),
         Found::Missing => Answer::plain(Err(Refusal::NotFound), 0),
@@ -92,8 +86,7 @@ pub fn get_stale_in(dir: &[u64], pool: &[u8], clock: u64, key: &[u8]) -> Answer
 pub fn get_stale(dir: &[u64], pool: &[u8], clock: u64, key: &[u8]) -> Answer
     ensures { result ≡ get_stale_call dir.now pool.now clock key.now }
 {
-    let check = checks::of_key(dir, pool, clock, key);
-    if let Err(refusal) = check {
+    if let Err(refusal) = checks::of_key(dir, pool, clock, key) {
         return Answer::plain(Err(refusal), 0); // nothing is looked up
     }
     get_stale_in(dir, pool, clock, key)
@@ -104,8 +97,7 @@ pub fn ttl_in(dir: &[u64], pool: &[u8], clock: u64, key: &[u8]) -> Answer
     requires { sound dir.now pool.now ≡ true }
     ensures { result ≡ ttl_found clock (memory_of dir.now pool.now) (look_up clock key.now (memory_of dir.now pool.now)) }
 {
-    let found = memory::look_up(dir, pool, clock, key); // live or dead by this clock
-    let Found::Live(i) = found else {
+    let Found::Live(i) = memory::look_up(dir, pool, clock, key) else { // live or dead by this clock
         return Answer::plain(Err(Refusal::NotFound), 0);
     };
     let left = time::time_left(directory::record_at(dir, i), clock);
@@ -116,8 +108,7 @@ pub fn ttl_in(dir: &[u64], pool: &[u8], clock: u64, key: &[u8]) -> Answer
 pub fn ttl(dir: &[u64], pool: &[u8], clock: u64, key: &[u8]) -> Answer
     ensures { result ≡ ttl_call dir.now pool.now clock key.now }
 {
-    let check = checks::of_key(dir, pool, clock, key);
-    if let Err(refusal) = check {
+    if let Err(refusal) = checks::of_key(dir, pool, clock, key) {
         return Answer::plain(Err(refusal), 0); // no time is told
     }
     ttl_in(dir, pool, clock, key)
@@ -129,10 +120,7 @@ pub fn bytes_at(pool: &[u8], offset: u64, size: u64) -> &[u8]
     ensures ref_ptr_value { result.ref_ptr ≡ (pool.entry.ref_ptr.0, bytes_start pool.now offset size + pool.entry.ref_ptr.1) }
 {
     let n = pool.len() as u64;
-    if n < offset {
-        return &pool[0..0];
-    }
-    if n - offset < size {
+    if n < offset || n - offset < size {
         return &pool[0..0];
     }
     let start = offset as usize;
@@ -144,12 +132,10 @@ pub fn bytes_at(pool: &[u8], offset: u64, size: u64) -> &[u8]
 pub fn find_text(dir: &[u64], pool: &[u8], clock: u64, key: &[u8]) -> Found
     ensures { result ≡ show_found (key_checks dir.now pool.now clock key.now) clock key.now (memory_of dir.now pool.now) }
 {
-    let check = checks::of_key(dir, pool, clock, key);
-    if let Err(_) = check {
+    if let Err(_) = checks::of_key(dir, pool, clock, key) {
         return Found::Missing;
     }
-    let found = memory::look_up(dir, pool, clock, key); // no sweep: nothing changes
-    let Found::Live(i) = found else {
+    let Found::Live(i) = memory::look_up(dir, pool, clock, key) else { // no sweep: nothing changes
         return Found::Missing;
     };
     let e = directory::record_at(dir, i);
@@ -164,8 +150,7 @@ pub fn show<'a>(dir: &[u64], pool: &'a [u8], clock: u64, key: &[u8], notice: &'a
     ensures result_value { result.now ≡ show_call dir.now pool.now clock key.now notice.now }
     ensures ref_ptr_value { result.ref_ptr ≡ show_start dir.now pool.now clock key.now pool.entry.ref_ptr notice.entry.ref_ptr }
 {
-    let found = find_text(dir, pool, clock, key);
-    let Found::Live(i) = found else {
+    let Found::Live(i) = find_text(dir, pool, clock, key) else {
         return notice;
     };
     let e = directory::record_at(dir, i);

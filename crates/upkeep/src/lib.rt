@@ -34,10 +34,8 @@ pub fn delete_swept(
     requires { sound dir.old pool.old ≡ true }
     ensures { Does (delete_found removed (memory_of dir.old pool.old) (look_up clock key.now (memory_of dir.old pool.old))) (length dir.old) result dir.new pool.new }
 {
-    let found = memory::look_up(dir, pool, clock, key);
-    match found {
-        Found::Live(i) => delete_at(dir, pool, i, removed),
-        Found::Dead(i) => delete_at(dir, pool, i, removed),
+    match memory::look_up(dir, pool, clock, key) {
+        Found::Live(i) | Found::Dead(i) => delete_at(dir, pool, i, removed),
         Found::Missing => Answer::plain(Ok(Reply::Done), removed), // nothing was there
     }
 }
@@ -55,8 +53,7 @@ pub fn delete_in(dir: &mut [u64], pool: &mut [u8], clock: u64, key: &[u8]) -> An
 pub fn delete(dir: &mut [u64], pool: &mut [u8], clock: u64, key: &[u8]) -> Answer
     ensures { gave result dir.new pool.new ≡ delete_call dir.old pool.old clock key.now }
 {
-    let check = checks::of_key(dir, pool, clock, key);
-    if let Err(refusal) = check {
+    if let Err(refusal) = checks::of_key(dir, pool, clock, key) {
         return Answer::plain(Err(refusal), 0);
     }
     delete_in(dir, pool, clock, key)
@@ -68,18 +65,13 @@ pub fn expire_in(dir: &mut [u64], pool: &[u8], clock: u64, key: &[u8], lifetime:
     requires lifetime_value { too_late clock lifetime ≡ false }
     ensures { Does (expire_found (expiry_of clock lifetime) (memory_of dir.old pool.now) (look_up clock key.now (memory_of dir.old pool.now))) (length dir.old) result dir.new pool.now }
 {
-    let found = memory::look_up(dir, pool, clock, key);
-    let Found::Live(i) = found else {
+    let Found::Live(i) = memory::look_up(dir, pool, clock, key) else {
         return Answer::plain(Err(Refusal::NotFound), 0);
     };
     let e = directory::record_at(dir, i);
     let after = Entry {
         expiry: time::expiry_of(clock, lifetime),
-        kind: e.kind,
-        flags: e.flags,
-        start: e.start,
-        klen: e.klen,
-        vlen: e.vlen,
+        ..e
     };
     directory::replace_at(dir, i, after);
     Answer::plain(Ok(Reply::Done), 0)
@@ -89,8 +81,7 @@ pub fn expire_in(dir: &mut [u64], pool: &[u8], clock: u64, key: &[u8], lifetime:
 pub fn expire(dir: &mut [u64], pool: &[u8], clock: u64, key: &[u8], lifetime: u64) -> Answer
     ensures { gave result dir.new pool.now ≡ expire_call dir.old pool.now clock key.now lifetime }
 {
-    let check = checks::of_expire(dir, pool, clock, key, lifetime);
-    if let Err(refusal) = check {
+    if let Err(refusal) = checks::of_expire(dir, pool, clock, key, lifetime) {
         return Answer::plain(Err(refusal), 0);
     }
     expire_in(dir, pool, clock, key, lifetime)
@@ -120,14 +111,13 @@ fn wipe_dead(dir: &[u64], pool: &mut [u8], clock: u64, most: usize) -> usize
     requires { sound dir.now pool.old ≡ true }
     ensures { GoFrom clock most (memory_of dir.now pool.old) result pool.new }
 {
-    let mut i = directory::count(dir);
-    let mut first = i;
-    let mut gone: usize = 0;
-    while 0 < i {
+    let n = directory::count(dir);
+    let mut first = n;
+    let mut gone = 0;
+    for i in (0..n).rev() {
         if gone == most {
             return first;
         }
-        i -= 1;
         let last = directory::record_at(dir, i);
         if time::is_dead(last, clock) {
             memory::wipe(pool, last);
@@ -146,15 +136,12 @@ fn drop_dead(dir: &mut [u64], clock: u64, first: usize) -> usize
 {
     let n = directory::count(dir);
     let mut kept = first;
-    let mut i = first;
-    while i < n {
+    for i in first..n {
         let e = directory::record_at(dir, i);
-        i += 1;
-        if time::is_dead(e, clock) {
-            continue; // e leaves
+        if !time::is_dead(e, clock) {
+            directory::replace_at(dir, kept, e);
+            kept += 1;
         }
-        directory::replace_at(dir, kept, e);
-        kept += 1;
     }
     directory::truncate(dir, kept);
     kept
@@ -176,8 +163,7 @@ pub fn flush_expired_in(dir: &mut [u64], pool: &mut [u8], clock: u64, maximum: u
 pub fn flush_expired(dir: &mut [u64], pool: &mut [u8], clock: u64, maximum: u64) -> Answer
     ensures { gave result dir.new pool.new ≡ flush_expired_call dir.old pool.old clock maximum }
 {
-    let check = checks::of_clock(dir, pool, clock);
-    if let Err(refusal) = check {
+    if let Err(refusal) = checks::of_clock(dir, pool, clock) {
         return Answer::plain(Err(refusal), 0);
     }
     flush_expired_in(dir, pool, clock, maximum)

@@ -7,11 +7,11 @@ use Rattle.listing.proofs.get_keys_flat.Goals as goal
 
 pub returns-in-Err : goal.returns-in-Err
 unfolding get_keys_flat_call
-returns-in-Err c = flat_refused _ _ _ _ _ _ _ (sym c.of_clock-check.ensures ∙ c.in-Err.is) c.plain.ensures
+returns-in-Err c = flat_refused _ _ _ _ _ _ _ (sym c.of_clock.ensures ∙ c.in-Err.is) c.plain.ensures
 
 pub get_keys_flat_in-requires : goal.get_keys_flat_in-requires
-get_keys_flat_in-requires c = clock_passed _ _ _ (sym c.in_default.is ∙ c.of_clock-check.ensures)
+get_keys_flat_in-requires c = clock_passed _ _ _ (sym c.in_default.is ∙ c.of_clock.ensures)
 
 pub returns : goal.returns
 unfolding get_keys_flat_call
-returns c = flat_passed _ _ _ _ _ _ (sym c.of_clock-check.ensures ∙ c.in_default.is) c.get_keys_flat_in.ensures
+returns c = flat_passed _ _ _ _ _ _ (sym c.of_clock.ensures ∙ c.in_default.is) c.get_keys_flat_in.ensures

@@ -7,11 +7,11 @@ use Rattle.reading.proofs.get.Goals as goal
 
 pub returns-in-Err : goal.returns-in-Err
 unfolding get_call
-returns-in-Err c = gave_refused _ _ _ _ _ _ (sym c.of_key-check.ensures ∙ c.in-Err.is) c.plain.ensures
+returns-in-Err c = gave_refused _ _ _ _ _ _ (sym c.of_key.ensures ∙ c.in-Err.is) c.plain.ensures
 
 pub get_in-requires : goal.get_in-requires
-get_in-requires c = key_passed _ _ _ _ (sym c.in_default.is ∙ c.of_key-check.ensures)
+get_in-requires c = key_passed _ _ _ _ (sym c.in_default.is ∙ c.of_key.ensures)
 
 pub returns : goal.returns
 unfolding get_call
-returns c = gave_passed _ _ _ _ _ _ _ (sym c.of_key-check.ensures ∙ c.in_default.is) c.get_in.ensures
+returns c = gave_passed _ _ _ _ _ _ _ (sym c.of_key.ensures ∙ c.in_default.is) c.get_in.ensures

@@ -7,11 +7,11 @@ use Rattle.reading.proofs.ttl.Goals as goal
 
 pub returns-in-Err : goal.returns-in-Err
 unfolding ttl_call
-returns-in-Err c = c.plain.ensures ∙ sym (ask_refused _ _ _ _ _ (sym c.of_key-check.ensures ∙ c.in-Err.is))
+returns-in-Err c = c.plain.ensures ∙ sym (ask_refused _ _ _ _ _ (sym c.of_key.ensures ∙ c.in-Err.is))
 
 pub ttl_in-requires : goal.ttl_in-requires
-ttl_in-requires c = key_passed _ _ _ _ (sym c.in_default.is ∙ c.of_key-check.ensures)
+ttl_in-requires c = key_passed _ _ _ _ (sym c.in_default.is ∙ c.of_key.ensures)
 
 pub returns : goal.returns
 unfolding ttl_call
-returns c = c.ttl_in.ensures ∙ sym (ask_passed _ _ _ _ (sym c.of_key-check.ensures ∙ c.in_default.is))
+returns c = c.ttl_in.ensures ∙ sym (ask_passed _ _ _ _ (sym c.of_key.ensures ∙ c.in_default.is))

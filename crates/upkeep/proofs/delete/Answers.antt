@@ -7,11 +7,11 @@ use Rattle.upkeep.proofs.delete.Goals as goal
 
 pub returns-in-Err : goal.returns-in-Err
 unfolding delete_call
-returns-in-Err c = gave_refused _ (delete_work _ _) _ _ _ _ (sym c.of_key-check.ensures ∙ c.in-Err.is) c.plain.ensures
+returns-in-Err c = gave_refused _ (delete_work _ _) _ _ _ _ (sym c.of_key.ensures ∙ c.in-Err.is) c.plain.ensures
 
 pub delete_in-requires : goal.delete_in-requires
-delete_in-requires c = key_passed _ _ _ _ (sym c.in_default.is ∙ c.of_key-check.ensures)
+delete_in-requires c = key_passed _ _ _ _ (sym c.in_default.is ∙ c.of_key.ensures)
 
 pub returns : goal.returns
 unfolding delete_call
-returns c = gave_passed _ (delete_work _ _) _ _ _ _ _ (sym c.of_key-check.ensures ∙ c.in_default.is) c.delete_in.ensures
+returns c = gave_passed _ (delete_work _ _) _ _ _ _ _ (sym c.of_key.ensures ∙ c.in_default.is) c.delete_in.ensures

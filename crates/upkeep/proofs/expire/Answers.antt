@@ -7,11 +7,11 @@ use Rattle.upkeep.proofs.expire.Goals as goal
 
 pub returns-in-Err : goal.returns-in-Err
 unfolding expire_call
-returns-in-Err c = gave_refused _ _ _ _ _ _ (sym c.of_expire-check.ensures ∙ c.in-Err.is) c.plain.ensures
+returns-in-Err c = gave_refused _ _ _ _ _ _ (sym c.of_expire.ensures ∙ c.in-Err.is) c.plain.ensures
 
 pub expire_in-requires : goal.expire_in-requires
-expire_in-requires c = record { pool_value = expire_passed _ _ _ _ _ (sym c.in_default.is ∙ c.of_expire-check.ensures); lifetime_value = expire_in_time _ _ _ _ _ (sym c.in_default.is ∙ c.of_expire-check.ensures) }
+expire_in-requires c = record { pool_value = expire_passed _ _ _ _ _ (sym c.in_default.is ∙ c.of_expire.ensures); lifetime_value = expire_in_time _ _ _ _ _ (sym c.in_default.is ∙ c.of_expire.ensures) }
 
 pub returns : goal.returns
 unfolding expire_call
-returns c = gave_passed _ _ _ _ _ _ _ (sym c.of_expire-check.ensures ∙ c.in_default.is) c.expire_in.ensures
+returns c = gave_passed _ _ _ _ _ _ _ (sym c.of_expire.ensures ∙ c.in_default.is) c.expire_in.ensures

@@ -6,12 +6,12 @@ use Rattle.laws.specs.Buffers.{given_sound, entry_cells}
 use Rattle.upkeep.specs.Flushing.{decided_none, decided_inside, decided_dead, decided_live, decided_full, decided_all}
 use Rattle.upkeep.proofs.wipe_dead.Goals as goal
 
-pub count-i-requires : goal.count-i-requires
-count-i-requires c = (given_sound _ _ c.requires).dir_is
+pub count-n-requires : goal.count-n-requires
+count-n-requires c = (given_sound _ _ c.requires).dir_is
 
 pub loop-i-init : goal.loop-i-init
 unfolding memory_of
-loop-i-init c = (omega arith, decided_none c.count-i.ensures)
+loop-i-init c = (omega arith, decided_none c.count-n.ensures)
 
 pub returns-then-gone-most : goal.returns-then-gone-most
 returns-then-gone-most c = decided_full c.loop-i.invariant.1 c.if-gone-most.true

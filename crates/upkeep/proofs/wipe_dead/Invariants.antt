@@ -7,6 +7,3 @@ use Rattle.upkeep.proofs.wipe_dead.Given as goal
 
 abbrev pub invariant-loop-i : goal.invariant-loop-i
 invariant-loop-i l = (l.i ≤ length (entries_of l.dir)) × Decided l.clock l.most (memory_of l.dir l.initial.pool) l.i l.first l.gone l.pool
-
-abbrev pub decreases-loop-i : goal.decreases-loop-i
-decreases-loop-i l = l.i
