@@ -9,10 +9,11 @@ use Rattle.std.proofs.Math.ListN.{length, drop}
 use Rattle.std.proofs.lemmas.List.{length-map}
 use Rattle.std.proofs.Math.Seq.{length-take-le}
 use Rattle.rules.specs.declared.Answer.{Answer}
-use Rattle.rules.specs.Outcome.{Check}
+use Rattle.rules.specs.Check.{Check}
 use Rattle.rules.specs.declared.Entry.{Entry}
 use Rattle.rules.specs.declared.Row.{Row}
-use Rattle.rules.specs.declared.Reply.TheVariants.{Count}
+use Rattle.rules.specs.declared.Outcome.{Outcome}
+use Rattle.rules.specs.declared.Outcome.TheVariants.{Count}
 use Rattle.rules.specs.Layout.{Memory, memory_of}
 use Rattle.rules.specs.Time.{dead}
 use Rattle.rules.specs.Soundness.{sound}
@@ -24,7 +25,6 @@ use Rattle.listing.specs.Counts.{most_fits}
 use Rattle.listing.specs.Rows.{length_rows}
 use Rattle.listing.specs.Filling.{Fits, filled}
 use Rattle.listing.proofs.FillingLaws.{filled_is}
-use Rattle.rules.specs.declared.Refusal.{Refusal}
 
 -- ---- a sound memory has no more entries than the table has rows
 
@@ -77,7 +77,7 @@ module _ (dir pool : List ℕ) (clock maximum room : ℕ) (s : sound dir pool �
           there = omega (arith, ap length in_front, length-append (row_words (key_rows clock n m)) behind, length_rows (key_rows clock n m), rows_length);
         }
 
-    told_listed : {a : Answer} → a ≡ plain (Ok (Count n)) 0 → (rows : List Row) → length rows ≡ room → listing a (filled rows t n) ≡ listed clock maximum rows m
+    told_listed : {a : Answer} → a ≡ plain (Count n) 0 → (rows : List Row) → length rows ≡ room → listing a (filled rows t n) ≡ listed clock maximum rows m
     unfolding listed
     told_listed {a} p rows l =
         let f : filled rows t n ≡ key_rows clock n m ++ drop n rows = filled_is rows (key_rows clock n m) behind t n in_front rows_length (omega (arith, count_fits)) in
@@ -86,14 +86,14 @@ module _ (dir pool : List ℕ) (clock maximum room : ℕ) (s : sound dir pool �
 
 -- ---- get_keys into the front of the table
 
-module _ (dir pool : List ℕ) (clock maximum room : ℕ) (s : sound dir pool ≡ true) (n : ℕ) (t₀ u t : List ℕ) (w : ℕ) (size : length t₀ ≡ 3072) (used : w ≡ 3 * min room 1024) (whole : t ≡ u ++ drop w t₀) (f : flat_listing (plain (Ok (Count n)) 0) u ≡ listed_flat clock maximum (take w t₀) (memory_of dir pool)) where
+module _ (dir pool : List ℕ) (clock maximum room : ℕ) (s : sound dir pool ≡ true) (n : ℕ) (t₀ u t : List ℕ) (w : ℕ) (size : length t₀ ≡ 3072) (used : w ≡ 3 * min room 1024) (whole : t ≡ u ++ drop w t₀) (f : flat_listing (plain (Count n) 0) u ≡ listed_flat clock maximum (take w t₀) (memory_of dir pool)) where
   abbrev k : ℕ
   k = key_count clock maximum (length (take w t₀) / 3) (memory_of dir pool)
 
   -- the count is that of so many rows
   counted : n ≡ k
   unfolding listed_flat
-  counted = let p : Ok (Count n) ≡ Ok (Count k) = ap (λ (x : FlatListing). x.answer.outcome) f in cc
+  counted = let p : Count n ≡ Count k = ap (λ (x : FlatListing). x.answer.outcome) f in cc
 
   front_count : n ≡ key_count clock maximum room (memory_of dir pool)
   front_count =
@@ -107,14 +107,14 @@ module _ (dir pool : List ℕ) (clock maximum room : ℕ) (s : sound dir pool �
   pub keys_fit : Fits n room (length t)
   keys_fit = told_fits dir pool clock maximum room s n front_count t₀ u t w whole front_rows
 
-  pub keys_listed : {a : Answer} → a ≡ plain (Ok (Count n)) 0 → (rows : List Row) → length rows ≡ room → listing a (filled rows t n) ≡ listed clock maximum rows (memory_of dir pool)
+  pub keys_listed : {a : Answer} → a ≡ plain (Count n) 0 → (rows : List Row) → length rows ≡ room → listing a (filled rows t n) ≡ listed clock maximum rows (memory_of dir pool)
   keys_listed p rows l = told_listed dir pool clock maximum room s n front_count t₀ u t w whole front_rows p rows l
 
 -- ---- the check before it
 
 module _ (c : Check) (clock maximum : ℕ) (rows : List Row) (m : Memory) where
   -- on a refusal all rows stay
-  pub rows_refused : (o : Refusal) (a : Answer) → c ≡ Err o → a ≡ plain (Err o) 0 → listing a rows ≡ keys_of c clock maximum rows m
+  pub rows_refused : (o : Outcome) (a : Answer) → c ≡ Err o → a ≡ plain o 0 → listing a rows ≡ keys_of c clock maximum rows m
   unfolding keys_of
   rows_refused o a e p = rw (p, e)
 

@@ -2,17 +2,17 @@
 use Rattle.std.specs.Prelude.{◌≡◌, List, ℕ, ◌/◌, min, length, Ok, Err}
 use Rattle.std.proofs.Common.{ap, ◌∙◌}
 use Rattle.rules.specs.declared.Answer.{Answer}
-use Rattle.rules.specs.Outcome.{Check}
-use Rattle.rules.specs.declared.Reply.TheVariants.{Count}
+use Rattle.rules.specs.Check.{Check}
+use Rattle.rules.specs.declared.Outcome.{Outcome}
+use Rattle.rules.specs.declared.Outcome.TheVariants.{Count}
 use Rattle.rules.specs.Layout.{Memory}
 use Rattle.rules.specs.Answer.{plain}
 use Rattle.rules.specs.Calls.{up_to, live_of, key_count, key_rows, FlatListing, flat_listing, listed_flat, flat_keys_of}
 use Rattle.listing.specs.Counts.{up_to_least}
 use Rattle.listing.specs.Rows.{Listed}
-use Rattle.rules.specs.declared.Refusal.{Refusal}
 
 -- the rows of the live entries, as many as fit and as the maximum allows
-pub flat_listed : {clock most : ℕ} (maximum : ℕ) (m : Memory) {t t' : List ℕ} {k : ℕ} {a : Answer} → most ≡ up_to maximum (length t / 3) → Listed clock most m.entries t k t' → a ≡ plain (Ok (Count k)) 0 → flat_listing a t' ≡ listed_flat clock maximum t m
+pub flat_listed : {clock most : ℕ} (maximum : ℕ) (m : Memory) {t t' : List ℕ} {k : ℕ} {a : Answer} → most ≡ up_to maximum (length t / 3) → Listed clock most m.entries t k t' → a ≡ plain (Count k) 0 → flat_listing a t' ≡ listed_flat clock maximum t m
 unfolding key_count key_rows listed_flat
 flat_listed {clock} {most} maximum m {t} {t'} {k} {a} e r p =
     let live : ℕ = length (live_of clock m.entries) in
@@ -21,7 +21,7 @@ flat_listed {clock} {most} maximum m {t} {t'} {k} {a} e r p =
 
 module _ (c : Check) (clock maximum : ℕ) (t : List ℕ) (m : Memory) where
   -- a refusal leaves the table, and carries nothing
-  pub flat_refused : (o : Refusal) (a : Answer) → c ≡ Err o → a ≡ plain (Err o) 0 → flat_listing a t ≡ flat_keys_of c clock maximum t m
+  pub flat_refused : (o : Outcome) (a : Answer) → c ≡ Err o → a ≡ plain o 0 → flat_listing a t ≡ flat_keys_of c clock maximum t m
   unfolding flat_keys_of
   flat_refused o a e p = rw (p, e)
 

@@ -3,14 +3,14 @@
 
 ghost use Rattle.std.specs.Prelude.{◌≡◌, true, [], ◌∷◌, ◌+◌, ◌*◌, ◌≤◌, length, Ok};
 ghost use Rattle.rules.specs.Layout.{entries_of, Dir, put, memory_of};
-ghost use Rattle.rules.specs.declared.Reply.TheVariants.{Count};
+ghost use Rattle.rules.specs.declared.Outcome.TheVariants.{Count};
 ghost use Rattle.rules.specs.Answer.{plain};
 ghost use Rattle.rules.specs.Soundness.{sound};
 ghost use Rattle.rules.specs.Calls.{row_of, row_words, flat_listing, listed_flat, get_keys_flat_call, listing, get_keys_call};
 ghost use Rattle.listing.specs.Rows.{Listed};
 ghost use Rattle.listing.specs.Filling.{row_at, Fits, filled};
 
-use rules::{Answer, Entry, Reply, Row};
+use rules::{Answer, Entry, Outcome, Row};
 
 // The three numbers of an entry's row, from p on.
 fn write_row(table: &mut [u64], p: usize, e: Entry)
@@ -45,7 +45,7 @@ fn write_rows(dir: &[u64], clock: u64, most: usize, table: &mut [u64]) -> usize
 // The rows of the live entries of a sound memory, so many as fit and as the maximum allows (0 for all). It answers how many.
 fn list_rows(dir: &[u64], pool: &[u8], clock: u64, maximum: u64, table: &mut [u64]) -> usize
     requires { sound dir.now pool.now ≡ true }
-    ensures { flat_listing (plain (Ok (Count result)) 0) table.new ≡ listed_flat clock maximum table.old (memory_of dir.now pool.now) }
+    ensures { flat_listing (plain (Count result) 0) table.new ≡ listed_flat clock maximum table.old (memory_of dir.now pool.now) }
 {
     let most = values::up_to(maximum, table.len() / 3);
     write_rows(dir, clock, most, table)
@@ -63,7 +63,7 @@ pub fn get_keys_flat_in(
     ensures { flat_listing result table.new ≡ listed_flat clock maximum table.old (memory_of dir.now pool.now) }
 {
     let n = list_rows(dir, pool, clock, maximum, table);
-    Answer::plain(Ok(Reply::Count(n as u64)), 0)
+    Answer::plain(Outcome::Count(n as u64), 0)
 }
 
 // get_keys into a table of plain numbers, three a row. It answers how many rows: the least of the maximum (0 for none), the rows that fit and the live entries. Later rows stay, and on a refusal all do.
@@ -77,7 +77,7 @@ pub fn get_keys_flat(
     ensures { flat_listing result table.new ≡ get_keys_flat_call dir.now pool.now clock maximum table.old }
 {
     if let Err(refusal) = checks::of_clock(dir, pool, clock) {
-        return Answer::plain(Err(refusal), 0);
+        return Answer::plain(refusal, 0);
     }
     get_keys_flat_in(dir, pool, clock, maximum, table)
 }
@@ -110,11 +110,11 @@ pub fn get_keys(dir: &[u64], pool: &[u8], clock: u64, maximum: u64, rows: &mut [
     ensures { listing result rows.new ≡ get_keys_call dir.now pool.now clock maximum rows.old }
 {
     if let Err(refusal) = checks::of_clock(dir, pool, clock) {
-        return Answer::plain(Err(refusal), 0); // no row is filled
+        return Answer::plain(refusal, 0); // no row is filled
     }
     let mut table = [0u64; 3072]; // no memory has more than 1,024 entries
     let end = 3 * rows.len().min(1024);
     let n = list_rows(dir, pool, clock, maximum, &mut table[..end]);
     fill_rows(rows, &table, n);
-    Answer::plain(Ok(Reply::Count(n as u64)), 0)
+    Answer::plain(Outcome::Count(n as u64), 0)
 }

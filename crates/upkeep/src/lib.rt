@@ -3,7 +3,7 @@
 
 ghost use Rattle.std.specs.Prelude.{◌≡◌, true, false, ◌≤◌, ◌<◌, length, Ok};
 ghost use Rattle.rules.specs.Layout.{entries_of, Dir, memory_of, remove};
-ghost use Rattle.rules.specs.declared.Reply.TheVariants.{Done};
+ghost use Rattle.rules.specs.declared.Outcome.TheVariants.{Done};
 ghost use Rattle.rules.specs.Time.{expiry_of, too_late};
 ghost use Rattle.rules.specs.LookUp.{look_up};
 ghost use Rattle.rules.specs.Soundness.{sound};
@@ -11,16 +11,16 @@ ghost use Rattle.rules.specs.Calls.{Does, gave, did, delete_found, delete_work, 
 ghost use Rattle.upkeep.specs.Flushing.{GoFrom};
 ghost use Rattle.upkeep.specs.Dropping.{Dropped};
 
-use rules::{Answer, Entry, Found, Refusal, Reply};
+use rules::{Answer, Entry, Found, Outcome};
 
 // The entry at i goes, and the delete is done.
 fn delete_at(dir: &mut [u64], pool: &mut [u8], i: usize, removed: usize) -> Answer
     requires pool_value { sound dir.old pool.old ≡ true }
     requires i_in_bounds { i < length (entries_of dir.old) }
-    ensures { Does (did (Ok Done) removed (remove i (memory_of dir.old pool.old))) (length dir.old) result dir.new pool.new }
+    ensures { Does (did Done removed (remove i (memory_of dir.old pool.old))) (length dir.old) result dir.new pool.new }
 {
     memory::remove(dir, pool, i);
-    Answer::plain(Ok(Reply::Done), removed)
+    Answer::plain(Outcome::Done, removed)
 }
 
 // delete behind its sweep: the entry under the key goes, live or dead.
@@ -36,7 +36,7 @@ pub fn delete_swept(
 {
     match memory::look_up(dir, pool, clock, key) {
         Found::Live(i) | Found::Dead(i) => delete_at(dir, pool, i, removed),
-        Found::Missing => Answer::plain(Ok(Reply::Done), removed), // nothing was there
+        Found::Missing => Answer::plain(Outcome::Done, removed), // nothing was there
     }
 }
 
@@ -54,7 +54,7 @@ pub fn delete(dir: &mut [u64], pool: &mut [u8], clock: u64, key: &[u8]) -> Answe
     ensures { gave result dir.new pool.new ≡ delete_call dir.old pool.old clock key.now }
 {
     if let Err(refusal) = checks::of_key(dir, pool, clock, key) {
-        return Answer::plain(Err(refusal), 0);
+        return Answer::plain(refusal, 0);
     }
     delete_in(dir, pool, clock, key)
 }
@@ -66,7 +66,7 @@ pub fn expire_in(dir: &mut [u64], pool: &[u8], clock: u64, key: &[u8], lifetime:
     ensures { Does (expire_found (expiry_of clock lifetime) (memory_of dir.old pool.now) (look_up clock key.now (memory_of dir.old pool.now))) (length dir.old) result dir.new pool.now }
 {
     let Found::Live(i) = memory::look_up(dir, pool, clock, key) else {
-        return Answer::plain(Err(Refusal::NotFound), 0);
+        return Answer::plain(Outcome::NotFound, 0);
     };
     let e = directory::record_at(dir, i);
     let after = Entry {
@@ -74,7 +74,7 @@ pub fn expire_in(dir: &mut [u64], pool: &[u8], clock: u64, key: &[u8], lifetime:
         ..e
     };
     directory::replace_at(dir, i, after);
-    Answer::plain(Ok(Reply::Done), 0)
+    Answer::plain(Outcome::Done, 0)
 }
 
 // expire: gives a live entry another expiry, 0 (never) for a lifetime of 0; else 8. Neither sweeps nor moves.
@@ -82,7 +82,7 @@ pub fn expire(dir: &mut [u64], pool: &[u8], clock: u64, key: &[u8], lifetime: u6
     ensures { gave result dir.new pool.now ≡ expire_call dir.old pool.now clock key.now lifetime }
 {
     if let Err(refusal) = checks::of_expire(dir, pool, clock, key, lifetime) {
-        return Answer::plain(Err(refusal), 0);
+        return Answer::plain(refusal, 0);
     }
     expire_in(dir, pool, clock, key, lifetime)
 }
@@ -93,7 +93,7 @@ pub fn flush_all_in(dir: &mut [u64], pool: &[u8]) -> Answer
     ensures { Does (flush_all_work (memory_of dir.old pool.now)) (length dir.old) result dir.new pool.now }
 {
     directory::expire_all(dir, 1);
-    Answer::plain(Ok(Reply::Done), 0)
+    Answer::plain(Outcome::Done, 0)
 }
 
 // flush_all: every expiry becomes 1. It takes no clock.
@@ -101,7 +101,7 @@ pub fn flush_all(dir: &mut [u64], pool: &[u8]) -> Answer
     ensures { gave result dir.new pool.now ≡ flush_all_call dir.old pool.now }
 {
     if !soundness::is_sound(dir, pool) {
-        return Answer::plain(Err(Refusal::NotSound), 0);
+        return Answer::plain(Outcome::NotSound, 0);
     }
     flush_all_in(dir, pool)
 }
@@ -156,7 +156,7 @@ pub fn flush_expired_in(dir: &mut [u64], pool: &mut [u8], clock: u64, maximum: u
     let most = values::up_to(maximum, n);
     let first = wipe_dead(dir, pool, clock, most);
     let kept = drop_dead(dir, clock, first);
-    Answer::plain(Ok(Reply::Done), n - kept)
+    Answer::plain(Outcome::Done, n - kept)
 }
 
 // flush_expired: dead entries go, longest unused first, up to a maximum (0 for all); removed tells how many.
@@ -164,7 +164,7 @@ pub fn flush_expired(dir: &mut [u64], pool: &mut [u8], clock: u64, maximum: u64)
     ensures { gave result dir.new pool.new ≡ flush_expired_call dir.old pool.old clock maximum }
 {
     if let Err(refusal) = checks::of_clock(dir, pool, clock) {
-        return Answer::plain(Err(refusal), 0);
+        return Answer::plain(refusal, 0);
     }
     flush_expired_in(dir, pool, clock, maximum)
 }
