@@ -78,13 +78,13 @@ fn outcome(call: &Call, words: &Words) -> String {
         "NoMemory",
     ];
     match (outcome, call.name, kind) {
-        (1.., ..) => format!("(Err {})", refusals[outcome as usize - 1]),
-        (0, Name::Ttl | Name::GetKeys, _) => format!("(Ok (Count {number}))"),
-        (0, Name::Incr, _) => format!("(Ok (Sum {}))", signed(number as i64)),
-        (0, _, 1) => format!("(Ok (Boolean {flags} {} {offset}))", number != 0),
-        (0, _, 3) => format!("(Ok (Number {flags} {} {offset}))", signed(number as i64)),
-        (0, _, 4) => format!("(Ok (Text {flags} {offset} {length}))"),
-        _ => String::from("(Ok Done)"),
+        (1.., ..) => refusals[outcome as usize - 1].to_string(),
+        (0, Name::Ttl | Name::GetKeys, _) => format!("(Count {number})"),
+        (0, Name::Incr, _) => format!("(Sum {})", signed(number as i64)),
+        (0, _, 1) => format!("(Boolean {flags} {} {offset})", number != 0),
+        (0, _, 3) => format!("(Number {flags} {} {offset})", signed(number as i64)),
+        (0, _, 4) => format!("(Text {flags} {offset} {length})"),
+        _ => String::from("Done"),
     }
 }
 

@@ -4,15 +4,14 @@ use crate::call::Name;
 
 /// The files of crates/rules/specs, with the names that vectors use of them. A vector's equation is closed by
 /// computing, so each definition on the way has to be opened.
-const FILES: [(&str, &str); 12] = [
-    ("declared.Reply.TheVariants", "Done Number Boolean Text Count Sum"),
+const FILES: [(&str, &str); 11] = [
     (
-        "declared.Refusal.TheVariants",
-        "NotSound ClockZero KeyEmpty KeyTooLong KindUnknown NilRefused ExpiryTooLate NotFound Exists NotNumber \
-         SumTooLarge NoMemory",
+        "declared.Outcome.TheVariants",
+        "Done Number Boolean Text Count Sum NotSound ClockZero KeyEmpty KeyTooLong KindUnknown NilRefused \
+         ExpiryTooLate NotFound Exists NotNumber SumTooLarge NoMemory",
     ),
     ("declared.Operation.TheVariants", "Set SafeSet Add SafeAdd Replace"),
-    ("Outcome", "given"),
+    ("Check", "given"),
     (
         "Layout",
         "encode decode flat entries_of without to_front replace_at put key_of value_bytes number_bytes number_at \
@@ -31,7 +30,7 @@ const FILES: [(&str, &str); 12] = [
     ),
 ];
 
-/// The names of Calls, the thirteenth file.
+/// The names of Calls, the twelfth file.
 const CALLS: &str = "gave call ask fresh_work fresh_call after_sweep shown get_found get_work get_call stale_found \
     get_stale_call delete_found delete_work delete_call entry_for place_at rewrite_at overwrite_at searched is_placed \
     if_room evicted forced_by fit_outcome place_fit placed_by place_anew store_over store_item most_rounds admits \

@@ -13,7 +13,7 @@ const MOST: usize = 60;
 const HEAD: &str = "\
 -- Calls that the second program (second/) made, computed once more by the definitions: the whole answer, all words and all bytes.
 -- Written by `cargo run --release --offline --bin vectors` in sessions/, not by hand.
-use Rattle.std.specs.Prelude.{◌≡◌, refl, true, false, [], ◌∷◌, ◌++◌, replicate, pos, negsuc, Ok, Err, None}
+use Rattle.std.specs.Prelude.{◌≡◌, refl, true, false, [], ◌∷◌, ◌++◌, replicate, pos, negsuc, None}
 ";
 
 /// A declaration: what it says of which call, and what it opens.

@@ -1,5 +1,5 @@
 -- incr over the entry at an index, and what its arguments have to be behind the checks.
-use Rattle.std.specs.Prelude.{◌≡◌, false, cond, List, ℕ, ◌≤◌, eqb, length, ℤ, ◌+ℤ◌, Err, Option, Some, None}
+use Rattle.std.specs.Prelude.{◌≡◌, false, cond, List, ℕ, ◌≤◌, eqb, length, ℤ, ◌+ℤ◌, Option, Some, None}
 use Rattle.rules.specs.declared.Outcome.TheVariants.{NotNumber}
 use Rattle.rules.specs.declared.Initial.{Initial}
 use Rattle.rules.specs.Layout.{Memory, entry_in, number_at}

@@ -1,12 +1,11 @@
 -- What the readers answer, by what the look-up found.
-use Rattle.std.specs.Prelude.{◌≡◌, true, false, List, ℕ, length, get_or, Ok, Err}
+use Rattle.std.specs.Prelude.{◌≡◌, true, false, List, ℕ, length, get_or}
 use Rattle.std.proofs.Math.Path.{refl, ap, subst}
 use Rattle.std.proofs.Common.{sym, ◌∙◌}
 use Rattle.rules.specs.declared.Entry.{Entry}
 use Rattle.rules.specs.declared.Answer.{Answer}
-use Rattle.rules.specs.Outcome.{Outcome}
-use Rattle.rules.specs.declared.Reply.TheVariants.{Count}
-use Rattle.rules.specs.declared.Refusal.TheVariants.{NotFound}
+use Rattle.rules.specs.declared.Outcome.{Outcome}
+use Rattle.rules.specs.declared.Outcome.TheVariants.{Count, NotFound}
 use Rattle.rules.specs.declared.Found.{Found}
 use Rattle.rules.specs.declared.Found.TheVariants.{Live, Dead, Missing}
 use Rattle.rules.specs.Layout.{encode, entries_of, none, Dir, to_front, Memory, memory_of, move_to_front}
@@ -22,17 +21,17 @@ module _ (clock : ℕ) (dir pool key : List ℕ) (f : Found) (e : f ≡ look_up 
   m = memory_of dir pool
 
   -- get: "else 8", and only the sweep has changed anything
-  pub get_nothing : (removed : ℕ) (a : Answer) → NoLive f → Dir dir → a ≡ plain (Err NotFound) removed → Does (get_found removed m (look_up clock key m)) (length dir) a dir pool
+  pub get_nothing : (removed : ℕ) (a : Answer) → NoLive f → Dir dir → a ≡ plain NotFound removed → Does (get_found removed m (look_up clock key m)) (length dir) a dir pool
   unfolding get_found
   get_nothing removed a n d h =
-      subst (λ (w : Work). Does w (length dir) a dir pool) (else_is (get_found removed m) (did (Err NotFound) removed m) (λ i. refl) refl f n ∙ ap (get_found removed m) e)
+      subst (λ (w : Work). Does w (length dir) a dir pool) (else_is (get_found removed m) (did NotFound removed m) (λ i. refl) refl f n ∙ ap (get_found removed m) e)
       (record { answer = h; memory = holds_itself dir pool d })
 
-  pub ttl_nothing : (a : Answer) → NoLive f → a ≡ plain (Err NotFound) 0 → a ≡ ttl_found clock m (look_up clock key m)
+  pub ttl_nothing : (a : Answer) → NoLive f → a ≡ plain NotFound 0 → a ≡ ttl_found clock m (look_up clock key m)
   unfolding ttl_found
-  ttl_nothing a n h = h ∙ else_is (ttl_found clock m) (plain (Err NotFound) 0) (λ i. refl) refl f n ∙ ap (ttl_found clock m) e
+  ttl_nothing a n h = h ∙ else_is (ttl_found clock m) (plain NotFound 0) (λ i. refl) refl f n ∙ ap (ttl_found clock m) e
 
-  pub stale_nothing : (a : Answer) → f ≡ Missing → a ≡ plain (Err NotFound) 0 → a ≡ stale_found m (look_up clock key m)
+  pub stale_nothing : (a : Answer) → f ≡ Missing → a ≡ plain NotFound 0 → a ≡ stale_found m (look_up clock key m)
   unfolding stale_found
   stale_nothing a q h = h ∙ ap (stale_found m) (sym q ∙ e)
 
@@ -55,6 +54,6 @@ module _ (clock : ℕ) (dir pool key : List ℕ) (f : Found) (e : f ≡ look_up 
     unfolding stale_found memory_of
     stale_dead o a q s h = h ∙ ap (λ (y : Outcome). marked y true) (s ∙ ap (shown pool) r) ∙ ap (stale_found m) (sym q ∙ e)
 
-    pub ttl_live : (left : ℕ) (a : Answer) → f ≡ Live i → left ≡ time_left clock x → a ≡ plain (Ok (Count left)) 0 → a ≡ ttl_found clock m (look_up clock key m)
+    pub ttl_live : (left : ℕ) (a : Answer) → f ≡ Live i → left ≡ time_left clock x → a ≡ plain (Count left) 0 → a ≡ ttl_found clock m (look_up clock key m)
     unfolding ttl_found memory_of
-    ttl_live left a q s h = h ∙ ap (λ (k : ℕ). plain (Ok (Count k)) 0) (s ∙ ap (time_left clock) r) ∙ ap (ttl_found clock m) (sym q ∙ e)
+    ttl_live left a q s h = h ∙ ap (λ (k : ℕ). plain (Count k) 0) (s ∙ ap (time_left clock) r) ∙ ap (ttl_found clock m) (sym q ∙ e)

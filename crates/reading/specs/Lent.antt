@@ -7,7 +7,7 @@ use native.Mathlib.Omega.{arith}
 use Rattle.std.proofs.Math.Dec.{leb}
 use borrow.Author.Tests.{le-leb, lt-leb, eq-eqb, ne_eqb}
 use Rattle.rules.specs.declared.Entry.{Entry}
-use Rattle.rules.specs.Outcome.{Check}
+use Rattle.rules.specs.Check.{Check}
 use Rattle.rules.specs.declared.Found.{Found}
 use Rattle.rules.specs.declared.Found.TheVariants.{Live, Dead, Missing}
 use Rattle.rules.specs.Layout.{entries_of, none, part, value_offset, value_bytes, Memory, entry_in, memory_of}
@@ -18,7 +18,7 @@ use Rattle.rules.specs.Calls.{bytes_start, bytes_at_call, text_found, show_found
 use Rattle.laws.specs.ChecksLaws.{key_passed}
 use Rattle.laws.specs.Buffers.{entry_inside}
 use Rattle.laws.specs.Meant.{NoLive, else_is, live_there}
-use Rattle.rules.specs.declared.Refusal.{Refusal}
+use Rattle.rules.specs.declared.Outcome.{Outcome}
 
 -- ---- bytes_at: the bytes, and where they stand for a pool that begins at `origin`
 
@@ -40,7 +40,7 @@ module _ (pool : List ℕ) (offset size : ℕ) (origin : ℕ × ℕ) where
 -- ---- show: the live text's entry, if a get would be answered
 
 module _ (clock : ℕ) (key : List ℕ) (m : Memory) where
-  pub text_refused : (c : Check) (o : Refusal) → c ≡ Err o → Missing ≡ show_found c clock key m
+  pub text_refused : (c : Check) (o : Outcome) → c ≡ Err o → Missing ≡ show_found c clock key m
   unfolding show_found
   text_refused c o e = ap (λ (x : Check). show_found x clock key m) (sym e)
 

@@ -1,10 +1,10 @@
 -- An entry whose value can be read from the pool, and what a reader answers of it.
-use Rattle.std.specs.Prelude.{◌≡◌, true, not, List, ℕ, ◌+◌, ◌^◌, ◌≤◌, ◌<◌, eqb, ltb, length, get_or, ℤ, Ok}
+use Rattle.std.specs.Prelude.{◌≡◌, true, not, List, ℕ, ◌+◌, ◌^◌, ◌≤◌, ◌<◌, eqb, ltb, length, get_or, ℤ}
 use Rattle.std.proofs.Math.Path.{sym, ap}
 use Rattle.std.proofs.Common.{◌∙◌, arith}
 use borrow.Author.Tests.{eqb-true, eq-eqb, ne_eqb}
 use Rattle.rules.specs.declared.Entry.{Entry}
-use Rattle.rules.specs.declared.Reply.TheVariants.{Number, Boolean, Text}
+use Rattle.rules.specs.declared.Outcome.TheVariants.{Number, Boolean, Text}
 use Rattle.rules.specs.Layout.{entries_of, none, value_offset, number_at}
 use Rattle.rules.specs.Soundness.{value_fits, sound}
 use Rattle.rules.specs.Calls.{shown}
@@ -37,14 +37,14 @@ module _ (pool : List ℕ) (e : Entry) where
   pub number_inside : Readable pool e → e.kind ≡ 3 → value_offset e + 8 ≤ length pool
   number_inside r k = omega (arith, r.inside, number_size pool e k r.fits)
 
-  pub shown_boolean : e.kind ≡ 1 → Ok (Boolean e.flags (not (eqb (get_or pool (value_offset e) 0) 0)) (value_offset e)) ≡ shown pool e
+  pub shown_boolean : e.kind ≡ 1 → Boolean e.flags (not (eqb (get_or pool (value_offset e) 0) 0)) (value_offset e) ≡ shown pool e
   unfolding shown
   shown_boolean k = sym (simp (eq-eqb e.kind 1 k))
 
-  pub shown_number : (z : ℤ) → (e.kind ≡ 1 → ⊥) → e.kind ≡ 3 → z ≡ number_at pool e → Ok (Number e.flags z (value_offset e)) ≡ shown pool e
+  pub shown_number : (z : ℤ) → (e.kind ≡ 1 → ⊥) → e.kind ≡ 3 → z ≡ number_at pool e → Number e.flags z (value_offset e) ≡ shown pool e
   unfolding shown
-  shown_number z j k n = ap (λ (x : ℤ). Ok (Number e.flags x (value_offset e))) n ∙ sym (simp (ne_eqb e.kind 1 j, eq-eqb e.kind 3 k))
+  shown_number z j k n = ap (λ (x : ℤ). Number e.flags x (value_offset e)) n ∙ sym (simp (ne_eqb e.kind 1 j, eq-eqb e.kind 3 k))
 
-  pub shown_text : (e.kind ≡ 1 → ⊥) → (e.kind ≡ 3 → ⊥) → Ok (Text e.flags (value_offset e) e.vlen) ≡ shown pool e
+  pub shown_text : (e.kind ≡ 1 → ⊥) → (e.kind ≡ 3 → ⊥) → Text e.flags (value_offset e) e.vlen ≡ shown pool e
   unfolding shown
   shown_text j k = sym (simp (ne_eqb e.kind 1 j, ne_eqb e.kind 3 k))

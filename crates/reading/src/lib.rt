@@ -9,27 +9,27 @@ ghost use Rattle.rules.specs.Checks.{key_checks};
 ghost use Rattle.rules.specs.Calls.{Does, gave, shown, get_found, get_work, get_call, stale_found, get_stale_call, ttl_found, ttl_call, bytes_start, bytes_at_call, show_found, show_call, show_start};
 ghost use Rattle.reading.specs.Readable.{Readable};
 
-use rules::{Answer, Entry, Found, Refusal, Reply};
+use rules::{Answer, Entry, Found, Outcome};
 
 // What a reader answers of an entry: its kind, flags and value, and where the value stands in the pool.
-fn shown(pool: &[u8], e: Entry) -> Reply
+fn shown(pool: &[u8], e: Entry) -> Outcome
     requires { Readable pool.now e }
-    ensures { Ok result ≡ shown pool.now e }
+    ensures { result ≡ shown pool.now e }
 {
     let flags = e.flags as u32;
     let offset = 32 * e.start as usize + e.klen as usize;
     match e.kind {
-        1 => Reply::Boolean {
+        1 => Outcome::Boolean {
             flags,
             on: pool[offset] != 0,
             offset,
         },
-        3 => Reply::Number {
+        3 => Outcome::Number {
             flags,
             number: values::number_at(pool, e),
             offset,
         },
-        _ => Reply::Text {
+        _ => Outcome::Text {
             flags,
             offset,
             size: e.vlen as usize,
@@ -43,12 +43,12 @@ fn get_swept(dir: &mut [u64], pool: &[u8], clock: u64, key: &[u8], removed: usiz
     ensures { Does (get_found removed (memory_of dir.old pool.now) (look_up clock key.now (memory_of dir.old pool.now))) (length dir.old) result dir.new pool.now }
 {
     let Found::Live(i) = memory::look_up(dir, pool, clock, key) else {
-        return Answer::plain(Err(Refusal::NotFound), removed);
+        return Answer::plain(Outcome::NotFound, removed);
     };
     let e = directory::record_at(dir, i);
-    let reply = shown(pool, e);
+    let outcome = shown(pool, e);
     directory::put_front(dir, i, e);
-    Answer::plain(Ok(reply), removed)
+    Answer::plain(outcome, removed)
 }
 
 // get on a sound memory.
@@ -65,7 +65,7 @@ pub fn get(dir: &mut [u64], pool: &mut [u8], clock: u64, key: &[u8]) -> Answer
     ensures { gave result dir.new pool.new ≡ get_call dir.old pool.old clock key.now }
 {
     if let Err(refusal) = checks::of_key(dir, pool, clock, key) {
-        return Answer::plain(Err(refusal), 0); // before the sweep
+        return Answer::plain(refusal, 0); // before the sweep
     }
     get_in(dir, pool, clock, key)
 }
@@ -76,9 +76,9 @@ pub fn get_stale_in(dir: &[u64], pool: &[u8], clock: u64, key: &[u8]) -> Answer
     ensures { result ≡ stale_found (memory_of dir.now pool.now) (look_up clock key.now (memory_of dir.now pool.now)) }
 {
     match memory::look_up(dir, pool, clock, key) {
-        Found::Live(i) => Answer::marked(Ok(shown(pool, directory::record_at(dir, i))), false),
-        Found::Dead(i) => Answer::marked(Ok(shown(pool, directory::record_at(dir, i))), true),
-        Found::Missing => Answer::plain(Err(Refusal::NotFound), 0),
+        Found::Live(i) => Answer::marked(shown(pool, directory::record_at(dir, i)), false),
+        Found::Dead(i) => Answer::marked(shown(pool, directory::record_at(dir, i)), true),
+        Found::Missing => Answer::plain(Outcome::NotFound, 0),
     }
 }
 
@@ -87,7 +87,7 @@ pub fn get_stale(dir: &[u64], pool: &[u8], clock: u64, key: &[u8]) -> Answer
     ensures { result ≡ get_stale_call dir.now pool.now clock key.now }
 {
     if let Err(refusal) = checks::of_key(dir, pool, clock, key) {
-        return Answer::plain(Err(refusal), 0); // nothing is looked up
+        return Answer::plain(refusal, 0); // nothing is looked up
     }
     get_stale_in(dir, pool, clock, key)
 }
@@ -98,10 +98,10 @@ pub fn ttl_in(dir: &[u64], pool: &[u8], clock: u64, key: &[u8]) -> Answer
     ensures { result ≡ ttl_found clock (memory_of dir.now pool.now) (look_up clock key.now (memory_of dir.now pool.now)) }
 {
     let Found::Live(i) = memory::look_up(dir, pool, clock, key) else { // live or dead by this clock
-        return Answer::plain(Err(Refusal::NotFound), 0);
+        return Answer::plain(Outcome::NotFound, 0);
     };
     let left = time::time_left(directory::record_at(dir, i), clock);
-    Answer::plain(Ok(Reply::Count(left)), 0)
+    Answer::plain(Outcome::Count(left), 0)
 }
 
 // ttl: what is left of a live entry's life, 0 if it never expires; missing or dead gives 8. Nothing changes.
@@ -109,7 +109,7 @@ pub fn ttl(dir: &[u64], pool: &[u8], clock: u64, key: &[u8]) -> Answer
     ensures { result ≡ ttl_call dir.now pool.now clock key.now }
 {
     if let Err(refusal) = checks::of_key(dir, pool, clock, key) {
-        return Answer::plain(Err(refusal), 0); // no time is told
+        return Answer::plain(refusal, 0); // no time is told
     }
     ttl_in(dir, pool, clock, key)
 }

@@ -1,5 +1,5 @@
 -- Placing anew, step by step: the choice, the rounds out, and the entry written.
-use Rattle.std.specs.Prelude.{◌≡◌, refl, true, false, ◌&&◌, Err, Option, Some, None}
+use Rattle.std.specs.Prelude.{◌≡◌, refl, true, false, ◌&&◌, Option, Some, None}
 use Rattle.std.proofs.Common.{sym, ◌∙◌, arith}
 use Rattle.std.proofs.Math.Path.{ap, subst}
 use mathlib.Core.List.{List, ◌∷◌}

@@ -34,7 +34,7 @@ pub struct Order<'a> {
     pub kind: u64,
     pub flags: u64,
     pub most: usize,
-    pub told: Reply,
+    pub told: Outcome,
     pub removed: usize,
 }
 
@@ -78,7 +78,7 @@ fn place_at(dir: &mut [u64], pool: &mut [u8], start: usize, order: Order)
 fn place_anew(dir: &mut [u64], pool: &mut [u8], clock: u64, order: Order) -> Answer
     requires pool_value { sound dir.old pool.old ≡ true }
     requires storable { Storable order }
-    ensures { Does (place_anew order.entry.most clock (item_from order.entry) (Ok order.entry.told) order.entry.removed (memory_of dir.old pool.old)) (length dir.old) result dir.new pool.new }
+    ensures { Does (place_anew order.entry.most clock (item_from order.entry) order.entry.told order.entry.removed (memory_of dir.old pool.old)) (length dir.old) result dir.new pool.new }
 {
     let need = values::need(order.key.len(), order.bytes.len());
     let Some(choice) = eviction::choose(dir, pool, clock, need, order.most) else {
@@ -100,7 +100,7 @@ fn store_over(dir: &mut [u64], pool: &mut [u8], clock: u64, order: Order, i: usi
     requires pool_value { sound dir.old pool.old ≡ true }
     requires storable { Storable order }
     requires i_in_bounds { i < length (entries_of dir.old) }
-    ensures { Does (store_over order.entry.most clock (item_from order.entry) (Ok order.entry.told) order.entry.removed (memory_of dir.old pool.old) i) (length dir.old) result dir.new pool.new }
+    ensures { Does (store_over order.entry.most clock (item_from order.entry) order.entry.told order.entry.removed (memory_of dir.old pool.old) i) (length dir.old) result dir.new pool.new }
 {
     let old = directory::record_at(dir, i);
     let bytes = order.bytes;
@@ -131,7 +131,7 @@ pub fn store_item(
     requires pool_value { sound dir.old pool.old ≡ true }
     requires storable { Storable order }
     requires found_value { found ≡ look_up clock order.key.now (memory_of dir.old pool.old) }
-    ensures { Does (store_item order.entry.most clock (item_from order.entry) (Ok order.entry.told) order.entry.removed (memory_of dir.old pool.old) found) (length dir.old) result dir.new pool.new }
+    ensures { Does (store_item order.entry.most clock (item_from order.entry) order.entry.told order.entry.removed (memory_of dir.old pool.old) found) (length dir.old) result dir.new pool.new }
 {
     match found {
         Found::Live(i) | Found::Dead(i) => store_over(dir, pool, clock, order, i),
