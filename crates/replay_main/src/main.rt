@@ -6,6 +6,7 @@ ghost use Rattle.rules.specs.Soundness.{every};
 ghost use Rattle.scanning.specs.Until.{other};
 ghost use Rattle.replay_calls.specs.Front.{Ready};
 ghost use Rattle.replay.specs.Whole.{held};
+ghost use Rattle.replay_main.specs.Sole.{ready_sole};
 
 use std::env::{Env, FillError};
 use std::fs::Files;
@@ -13,7 +14,7 @@ use std::io::{Error, ErrorKind, Print, Read, Write};
 use std::{fs, io};
 
 // No input has so many lines; with fewer, the count of lines has room for a piece of input more.
-const LINES: u64 = 9223372036854775808;
+const LINES: u64 = 1 << 63;
 
 // What ends a replay before the end of its input.
 #[derive(Debug, Drop)]
@@ -22,10 +23,10 @@ enum Failure {
     Output(Error),
 }
 
-// Whether an input may have more.
+// What comes next of an input.
 #[derive(Clone, Copy, Debug, PartialEq, Eq)]
-enum Input {
-    More,
+enum Next {
+    Piece,
     End,
 }
 
@@ -46,7 +47,7 @@ struct Lines<W> {
     out: [u8; 65536],
     cells: usize,
     count: u64,
-    ghost ready: { ∥ Ready cells dir pool ∥₁ },
+    ghost ready: { Ready cells dir pool } by { ready_sole cells dir pool },
 }
 
 impl<W: Write> Lines<W> {
@@ -134,17 +135,17 @@ impl<W: Write> Replay<W> {
     }
 
     // Reads once, behind what is kept of a line, and does the lines that came to an end.
-    fn read_some<R: Read>(&mut self, from: &mut R) -> Result<Input, Failure> {
+    fn read_some<R: Read>(&mut self, from: &mut R) -> Result<Next, Failure> {
         if LINES <= self.lines.count {
-            return Ok(Input::End);
+            return Ok(Next::End);
         }
         let held = self.waiting.put_in(&mut self.piece);
         let more = from.read(&mut self.piece[held..]).map_err(Failure::Input)?;
         if more == 0 {
-            return Ok(Input::End);
+            return Ok(Next::End);
         }
         self.take_piece(held + more)?;
-        Ok(Input::More)
+        Ok(Next::Piece)
     }
 
     // A last line that has no end is done as if it had one.
@@ -164,7 +165,7 @@ impl<W: Write> Replay<W> {
     fn read_all<R: Read>(&mut self, from: &mut R) -> Result<(), Failure> {
         self.waiting.count = 0;
         for _ in 0..u64::MAX {
-            if self.read_some(from)? == Input::End {
+            if self.read_some(from)? == Next::End {
                 break;
             }
         }
@@ -218,34 +219,27 @@ impl<W: Write> Replay<W> {
 
 // How many arguments the program was started with, its own name among them.
 fn argument_count<S: Env>(rt: &S) -> usize {
-    for i in 0..usize::MAX {
-        if let Err(FillError::NotPresent) = rt.arg(i, &mut []) {
-            return i;
-        }
-    }
-    usize::MAX
+    (0..usize::MAX)
+        .find(|i| matches!(rt.arg(*i, &mut []), Err(FillError::NotPresent)))
+        .unwrap_or(usize::MAX)
 }
 
 // Puts an argument at the beginning of `name`, and answers its length. What failed is worded as the system words it.
 fn read_name<S: Env>(rt: &S, argument: usize, name: &mut [u8]) -> io::Result<usize>
     ensures { IfOk result (λ n. n ≤ length name.new) }
 {
-    match rt.arg(argument, name) {
-        Ok(length) => Ok(length),
-        Err(FillError::TooLong) => Err(Error::new(
-            ErrorKind::InvalidFilename,
-            "File name too long",
-        )),
-        Err(FillError::NotPresent) => Err(Error::new(ErrorKind::InvalidInput, "Invalid argument")),
-    }
+    rt.arg(argument, name).map_err(|why| match why {
+        FillError::TooLong => Error::new(ErrorKind::InvalidFilename, "File name too long"),
+        FillError::NotPresent => Error::new(ErrorKind::InvalidInput, "Invalid argument"),
+    })
 }
 
 // Opens the file of a name. A path of std is text, so that a name which is none cannot be opened.
 fn open<S: Files>(rt: &S, name: &[u8]) -> io::Result<S::File> {
-    match str::from_utf8(name) {
-        Ok(path) => fs::open(rt, path),
-        Err(_) => Err(Error::new(ErrorKind::InvalidFilename, "File name is not UTF-8")),
-    }
+    let Ok(path) = str::from_utf8(name) else {
+        return Err(Error::new(ErrorKind::InvalidFilename, "File name is not UTF-8"));
+    };
+    fs::open(rt, path)
 }
 
 // ---- the program
