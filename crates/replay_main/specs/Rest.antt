@@ -1,10 +1,9 @@
--- What is left of a piece of input, and what is kept of it.
-use Rattle.std.specs.Prelude.{◌≡◌, refl, Bool, true, List, [], ◌∷◌, ℕ, ◌+◌, ◌-◌, ◌≤◌, length, take, drop}
-use Rattle.std.proofs.Common.{sym, ap, ◌∙◌, arith, length-drop, length-take-le, take_all}
+-- What is left of a piece of input, and what stands at the beginning of a list.
+use Rattle.std.specs.Prelude.{◌≡◌, refl, true, List, [], ◌∷◌, ℕ, ◌-◌, ◌≤◌, length, take, drop}
+use Rattle.std.proofs.Common.{ap, ◌∙◌, arith, length-drop, take_all}
 use Rattle.rules.specs.Layout.{put}
 use Rattle.rules.specs.Soundness.{every}
 use Rattle.scanning.specs.Until.{other}
-use Rattle.replay.specs.Whole.{held}
 use Rattle.replay.specs.Progress.{take_put}
 
 -- where nothing is left, no line ends
@@ -17,8 +16,6 @@ none_ends (x ∷ xs) h = absurd (omega (arith, h))
 pub rest_ends : (l : List ℕ) (at : ℕ) → every (other 10) (drop at l) ≡ true → every (other 10) (take (length l - at) (drop at l)) ≡ true
 rest_ends l at h = ap (every (other 10)) (take_all (length l - at) (drop at l) (omega (arith, length-drop at l))) ∙ h
 
--- what is kept stands at the beginning
-pub kept_front : (kept rest : List ℕ) (n : ℕ) → 4097 ≤ length kept → n ≤ 4097 → n ≡ length (held rest) → take n (put kept 0 (held rest)) ≡ held rest
-kept_front kept rest n room most e =
-    ap (λ (m : ℕ). take m (put kept 0 (held rest))) (e ∙ omega arith)
-    ∙ take_put kept 0 (held rest) (omega (arith, e))
+-- what is written over the beginning of a list stands there
+pub front_put : (d t : List ℕ) (n : ℕ) → n ≡ length t → n ≤ length d → take n (put d 0 t) ≡ t
+front_put d t n e h = ap (λ (m : ℕ). take m (put d 0 t)) (e ∙ omega arith) ∙ take_put d 0 t (omega (arith, e, h))

@@ -1,6 +1,5 @@
 -- That a memory is ready has no two proofs, so that a struct may hold it.
 use Rattle.std.specs.Prelude.{List, ℕ}
-use Rattle.std.specs.Coded.{le_prop}
 use Rattle.std.proofs.Common.{ap, arith}
 use Rattle.std.proofs.Math.Nat.{ℕ_set}
 use Rattle.std.proofs.Props.{props}

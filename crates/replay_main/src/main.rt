@@ -1,7 +1,9 @@
 // Replays the lines of standard input, or of the files named as arguments, and writes the output to standard output. Lines are read in pieces, so that an input may have any size.
 #![tactic(auto)]
 
-ghost use Rattle.std.specs.Prelude.{◌≡◌, ◌+◌, ◌≤◌, ◌<◌, ◌^◌, true, length, take, IfOk};
+ghost use Rattle.std.specs.Prelude.{◌≡◌, ◌+◌, ◌≤◌, ◌<◌, ◌^◌, true, length, take, IfOk, OnOk};
+ghost use Rattle.std.specs.Io.KnownBytes.{Appends};
+ghost use Rattle.rules.specs.Replay.{header};
 ghost use Rattle.rules.specs.Soundness.{every};
 ghost use Rattle.scanning.specs.Until.{other};
 ghost use Rattle.replay_calls.specs.Front.{Ready};
@@ -51,8 +53,24 @@ struct Lines<W> {
 }
 
 impl<W: Write> Lines<W> {
+    // A memory that no `fresh` has touched.
+    fn new(output: W) -> Self
+        ensures { result.count ≡ 0 }
+    {
+        Lines {
+            output,
+            dir: [0; 6146],
+            pool: [0; 32768],
+            out: [0; 65536],
+            cells: 0,
+            count: 0,
+        }
+    }
+
     // Writes the header of the output.
-    fn begin(&mut self) -> io::Result<()> {
+    fn begin(&mut self) -> io::Result<()>
+        ensures { OnOk result (Appends (W.contents self.old.output) (W.contents self.new.output) header) }
+    {
         let begun = printing::write_header(&mut self.out);
         self.output.write_all(&self.out[..begun])
     }
@@ -124,6 +142,17 @@ struct Replay<W> {
 }
 
 impl<W: Write> Replay<W> {
+    fn new(output: W) -> Self {
+        Replay {
+            lines: Lines::new(output),
+            waiting: Waiting {
+                bytes: [0; 4097],
+                count: 0,
+            },
+            piece: [0; 65536],
+        }
+    }
+
     // Does the lines of the first n bytes of the piece, and keeps what is left of them.
     fn take_piece(&mut self, n: usize) -> Result<(), Failure>
         requires n_bound { self.old.lines.count + n < 2 ^ 64 }
@@ -244,7 +273,7 @@ fn open<S: Files>(rt: &S, name: &[u8]) -> io::Result<S::File> {
 
 // ---- the program
 
-// Writes the header, and replays what the program was told to: its standard input, or files one after the other. What fails is an output that cannot be written.
+// Writes the header, and replays standard input, or the files that the arguments name, one after the other.
 fn replay_inputs<W: Write, E: Print>(
     rt: &HostRuntime,
     replay: &mut Replay<W>,
@@ -262,22 +291,7 @@ fn replay_inputs<W: Write, E: Print>(
 }
 
 fn main(rt: HostRuntime) {
-    let lines = Lines {
-        output: rt.stdout(),
-        dir: [0; 6146],
-        pool: [0; 32768],
-        out: [0; 65536],
-        cells: 0,
-        count: 0,
-    };
-    let mut replay = Replay {
-        lines,
-        waiting: Waiting {
-            bytes: [0; 4097],
-            count: 0,
-        },
-        piece: [0; 65536],
-    };
+    let mut replay = Replay::new(rt.stdout());
     let errors = rt.stderr();
     if let Err(why) = replay_inputs(&rt, &mut replay, &errors) {
         fail(&errors, b"standard output", why);
