@@ -6,6 +6,10 @@ use Rattle.rules.specs.Soundness.{every}
 use Rattle.scanning.specs.Until.{other}
 use Rattle.replay.specs.Progress.{take_put}
 
+-- a list is the last part of another
+abbrev pub IsRest : List ℕ → List ℕ → Type 0
+IsRest rest l = rest ≡ drop (length l - length rest) l
+
 -- where nothing is left, no line ends
 pub none_ends : (rest : List ℕ) → length rest ≡ 0 → every (other 10) rest ≡ true
 unfolding every

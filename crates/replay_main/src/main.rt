@@ -8,6 +8,7 @@ ghost use Rattle.rules.specs.Soundness.{every};
 ghost use Rattle.scanning.specs.Until.{other};
 ghost use Rattle.replay_calls.specs.Front.{Ready};
 ghost use Rattle.replay.specs.Whole.{held};
+ghost use Rattle.replay_main.specs.Rest.{IsRest};
 ghost use Rattle.replay_main.specs.Sole.{ready_sole};
 
 use std::env::{Env, FillError};
@@ -79,6 +80,7 @@ impl<W: Write> Lines<W> {
     fn pump<'a>(&mut self, input: &'a [u8]) -> io::Result<&'a [u8]>
         requires { self.old.count + length input.now < 2 ^ 64 }
         ensures rest_in_bounds { IfOk result (λ rest. length rest.now ≤ length input.now) }
+        ensures rest_is_last { IfOk result (λ rest. IsRest rest.now input.now) }
         ensures rest_has_no_end { IfOk result (λ rest. every (other 10) rest.now ≡ true) }
         ensures count_bound { self.new.count ≤ self.old.count + length input.now }
     {
