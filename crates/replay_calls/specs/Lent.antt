@@ -1,0 +1,13 @@
+-- The lent memory, in the terms of chapter "Replay lines".
+use Rattle.std.specs.Prelude.{◌≡◌}
+use Rattle.rules.specs.Replay.{Replay}
+use Rattle.replay_calls.specs.declared.Lent.{Lent}
+use Rattle.replay_calls.specs.Front.{state}
+
+-- what is lent, and how far it is in use
+abbrev pub left : Lent → Replay
+left m = state m.cells m.dir.now m.pool.now
+
+-- the same buffers are lent
+abbrev pub Same : Lent → Lent → Type 0
+Same m n = (n.dir.ghost_name ≡ m.dir.ghost_name) × (n.pool.ghost_name ≡ m.pool.ghost_name)
