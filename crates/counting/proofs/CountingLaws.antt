@@ -35,19 +35,17 @@ use Rattle.laws.specs.Demand.{demand_3}
 use Rattle.values.specs.Sum.{sum_of}
 use Rattle.values.specs.Bits.{held}
 use Rattle.values.specs.SumLaws.{Told, sum_told, sum_refused}
-use Rattle.values.specs.declared.Sum as S
-use Rattle.values.specs.declared.Sum.TheVariants.{Is, OutOfRange}
 use Rattle.storing.specs.declared.Order.{Order}
 use Rattle.storing.specs.Order.{item_from, Storable}
 use Rattle.counting.specs.Counting.{incr_at, InTime, Countable}
 use Rattle.rules.specs.declared.Refusal.{Refusal}
 
 -- a sum that was told, of the numbers as they are
-pub add_told : {a b x y : ℤ} {t u : S.Sum} → a ≡ x → b ≡ y → t ≡ sum_of (a +ℤ b) → t ≡ u → sum_of (x +ℤ y) ≡ u
+pub add_told : {a b x y : ℤ} {t u : Option ℤ} → a ≡ x → b ≡ y → t ≡ sum_of (a +ℤ b) → t ≡ u → sum_of (x +ℤ y) ≡ u
 add_told p q e g = rw (← p, ← q) (sym e ∙ g)
 
 -- and of the sum as a callee gets it
-told_held : (sum z : ℤ) → sum_of sum ≡ Is z → held z ≡ sum
+told_held : (sum z : ℤ) → sum_of sum ≡ Some z → held z ≡ sum
 told_held sum z o = let t : Told sum z = sum_told sum z o in ap held t.is ∙ to_z-of_z {w = w64} (range_fits sum t.range)
 
 -- ---- over the live entry at i
@@ -78,10 +76,10 @@ module _ (dir pool : List ℕ) (step : ℤ) (removed i : ℕ) (e : Entry) (x : e
   unfolding incr_live
   sum_is b k r = sym (ap (λ (y : Bool). cond y (did (Ok (Sum sum)) removed (add_at i sum m)) (did (Err SumTooLarge) removed m)) r) ∙ at_is true (eq-eqb e.kind 3 k)
 
-  pub live_out : (a : Answer) → Dir dir → e.kind ≡ 3 → sum_of sum ≡ OutOfRange → a ≡ plain (Err SumTooLarge) removed → Does (incr_at step removed m i) (length dir) a dir pool
+  pub live_out : (a : Answer) → Dir dir → e.kind ≡ 3 → sum_of sum ≡ None → a ≡ plain (Err SumTooLarge) removed → Does (incr_at step removed m i) (length dir) a dir pool
   live_out a d k o q = does_is (sum_is false k (sum_refused sum o)) (record { answer = q; memory = holds_itself dir pool d })
 
-  pub live_sum : (a : Answer) (z : ℤ) {bytes dir' pool' : List ℕ} → e.kind ≡ 3 → sum_of sum ≡ Is z → bytes ≡ number_bytes (held z) → Holds (length dir) (rewrite_at i e bytes m) dir' pool' → a ≡ plain (Ok (Sum (held z))) removed → Does (incr_at step removed m i) (length dir) a dir' pool'
+  pub live_sum : (a : Answer) (z : ℤ) {bytes dir' pool' : List ℕ} → e.kind ≡ 3 → sum_of sum ≡ Some z → bytes ≡ number_bytes (held z) → Holds (length dir) (rewrite_at i e bytes m) dir' pool' → a ≡ plain (Ok (Sum (held z))) removed → Does (incr_at step removed m i) (length dir) a dir' pool'
   unfolding add_at memory_of
   live_sum a z {bytes} {dir'} {pool'} k o b h q =
       let s : held z ≡ sum = told_held sum z o in
@@ -117,11 +115,11 @@ module _ (clock : ℕ) (key : List ℕ) (step : ℤ) (removed : ℕ) (dir pool :
         sym (ap initially is_given
         ∙ ap (λ (y : Bool). cond y (store_item 30 clock (item_of clock key 3 (number +ℤ step) [] lifetime 0) (Ok (Sum (number +ℤ step))) removed (memory_of dir pool) found) (did (Err SumTooLarge) removed (memory_of dir pool))) r)
 
-    pub initial_out : (a : Answer) → Dir dir → sum_of (number +ℤ step) ≡ OutOfRange → a ≡ plain (Err SumTooLarge) removed → Does (initially initial) (length dir) a dir pool
+    pub initial_out : (a : Answer) → Dir dir → sum_of (number +ℤ step) ≡ None → a ≡ plain (Err SumTooLarge) removed → Does (initially initial) (length dir) a dir pool
     initial_out a d o q = does_is (new_is false (sum_refused (number +ℤ step) o)) (record { answer = q; memory = holds_itself dir pool d })
 
     -- "store initial + step, flags 0, as a plain set would"
-    module _ (z : ℤ) (o : Order) (bytes : List ℕ) (told : sum_of (number +ℤ step) ≡ Is z) (order : Initially clock lifetime z removed o) (b : bytes ≡ number_bytes (held z)) where
+    module _ (z : ℤ) (o : Order) (bytes : List ℕ) (told : sum_of (number +ℤ step) ≡ Some z) (order : Initially clock lifetime z removed o) (b : bytes ≡ number_bytes (held z)) where
       abbrev item : Item
       item = item_of clock key 3 (number +ℤ step) [] lifetime 0
 

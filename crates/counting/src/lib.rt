@@ -12,7 +12,6 @@ ghost use Rattle.counting.specs.Counting.{incr_at, Countable};
 
 use rules::{Answer, Found, Initial, Refusal, Reply};
 use storing::Order;
-use values::Sum;
 
 // Adds the step to the live entry at i: not a number gives 10, a sum out of range 11, both before anything changes.
 fn incr_live(dir: &mut [u64], pool: &mut [u8], i: usize, step: i64, removed: usize) -> Answer
@@ -24,8 +23,7 @@ fn incr_live(dir: &mut [u64], pool: &mut [u8], i: usize, step: i64, removed: usi
     if e.kind != 3 {
         return Answer::plain(Err(Refusal::NotNumber), removed);
     }
-    let sum = values::add(values::number_at(pool, e), step);
-    let Sum::Is(number) = sum else {
+    let Some(number) = values::add(values::number_at(pool, e), step) else {
         return Answer::plain(Err(Refusal::SumTooLarge), removed); // nothing is stored
     };
     let bytes = values::number_bytes(number);
@@ -52,8 +50,7 @@ fn incr_initial(
     let Some(begin) = initial else {
         return Answer::plain(Err(Refusal::NotFound), removed);
     };
-    let sum = values::add(begin.number, step);
-    let Sum::Is(total) = sum else {
+    let Some(total) = values::add(begin.number, step) else {
         return Answer::plain(Err(Refusal::SumTooLarge), removed);
     };
     let bytes = values::number_bytes(total);

@@ -1,5 +1,5 @@
 pub mod Reading
 pub mod ReadingLaws
-pub mod WeightLaws
 pub mod DigitLaws
+pub mod WeightLaws
 pub mod SignedLaws

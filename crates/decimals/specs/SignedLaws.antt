@@ -1,35 +1,33 @@
--- Writing a signed number: its digits by its bits, and a minus before them.
-use Rattle.std.specs.Prelude.{◌≡◌, List, [], ◌∷◌, ℕ, suc, ◌+◌, ◌-◌, ◌^◌, ◌≤◌, ◌<◌, length, set, ℤ, pos, negsuc}
-use Rattle.std.proofs.Common.{ap, ◌∙◌, arith, of_z, SFits}
+-- Writing a signed number: the digits of its magnitude, and a minus before them where it is below 0.
+use Rattle.std.specs.Prelude.{◌≡◌, refl, true, false, List, [], ◌∷◌, ℕ, ◌+◌, ◌^◌, ◌≤◌, length, set, ℤ, pos, negsuc, unsigned_abs}
+use Rattle.std.proofs.Common.{sym, ap, ◌∙◌, arith, SFits, to_z-of_z, ltb-true}
+use Rattle.std.proofs.lemmas.Bool.{false≢true}
 use Rattle.std.proofs.lemmas.List.Edits.{sets-eq}
 use Rattle.std.specs.Int.{w64}
+use Rattle.std.specs.Int.Signed.{lt_z}
 use Rattle.rules.specs.Layout.{put}
 use Rattle.rules.specs.Replay.{decimal, signed}
 use Rattle.laws.specs.LayoutLaws.{put_then}
-use Rattle.values.specs.Bits.{held, bits_told}
+use Rattle.values.specs.Bits.{held}
 use Rattle.decimals.specs.DigitLaws.{length_within}
 
--- ---- the digits, by the bits b
-
-plus : (z : ℤ) (b : ℕ) → SFits w64 z → b ≡ of_z w64 z → b < 2 ^ 63 → decimal b ≡ signed z
+below : (z : ℤ) → lt_z z (pos 0) ≡ true → 45 ∷ decimal (unsigned_abs z) ≡ signed z
 unfolding signed
-plus (pos n) b f e h = ap decimal e
-plus (negsuc n) b f e h = absurd (omega (arith, f.sfits))
+below (pos n) t = absurd (omega (arith, ltb-true n 0 t))
+below (negsuc n) t = refl
 
-minus : (z : ℤ) (b : ℕ) → SFits w64 z → b ≡ of_z w64 z → 2 ^ 63 ≤ b → 45 ∷ decimal (2 ^ 64 - 1 - b + 1) ≡ signed z
+above : (z : ℤ) → lt_z z (pos 0) ≡ false → decimal (unsigned_abs z) ≡ signed z
 unfolding signed
-minus (pos n) b f e h = absurd (omega (arith, f.sfits))
-minus (negsuc n) b f e h =
-    let k : 2 ^ 64 - 1 - b + 1 ≡ suc n = omega (arith, f.sfits) in
-    ap (λ (x : ℕ). 45 ∷ decimal x) k
+above (pos n) t = refl
+above (negsuc n) t = absurd (false≢true (sym t))
 
--- as the code learns them from `to_bits`
-module _ {z : ℤ} {b : ℕ} (f : SFits w64 z) (e : b ≡ of_z w64 (held z)) where
-  pub signed_plus : b < 2 ^ 63 → decimal b ≡ signed z
-  signed_plus h = plus z b f (bits_told f e) h
+-- as the code learns them of the number that it reads
+module _ {z : ℤ} {m : ℕ} (f : SFits w64 z) (e : m ≡ unsigned_abs (held z)) where
+  pub signed_minus : lt_z (held z) (pos 0) ≡ true → 45 ∷ decimal m ≡ signed z
+  signed_minus t = ap (λ (n : ℕ). 45 ∷ decimal n) e ∙ below (held z) t ∙ ap signed (to_z-of_z {w = w64} f)
 
-  pub signed_minus : 2 ^ 63 ≤ b → 45 ∷ decimal (2 ^ 64 - 1 - b + 1) ≡ signed z
-  signed_minus h = minus z b f (bits_told f e) h
+  pub signed_plus : lt_z (held z) (pos 0) ≡ false → decimal m ≡ signed z
+  signed_plus t = ap decimal e ∙ above (held z) t ∙ ap signed (to_z-of_z {w = w64} f)
 
 -- a magnitude has a digit less than what 64 bits hold: with a minus it has as much room
 pub magnitude_most : (n : ℕ) → n ≤ 2 ^ 63 → length (decimal n) ≤ 19

@@ -4,91 +4,51 @@
 ghost use Rattle.std.specs.Prelude.{◌≡◌, ◌+◌, ◌≤◌, length};
 ghost use Rattle.rules.specs.Layout.{put};
 ghost use Rattle.rules.specs.Replay.{number_said, weight_said, decimal, signed};
-ghost use Rattle.decimals.specs.Reading.{number, weight, run_said};
+ghost use Rattle.decimals.specs.Reading.{run_said};
 
-const HALF: u64 = 9223372036854775808;
-
-const TOP: u64 = 18446744073709551615;
-
-// What a field says: a number, or nothing that is understood.
-#[derive(Clone, Copy)]
-pub enum Number {
-    Is(u64),
-    Unread,
-}
-
-// What a weight's field says.
-#[derive(Clone, Copy)]
-pub enum Weight {
-    Is(i64),
-    Unread,
-}
-
-// The number that digits are, where all are digits and it is no more than `most`. No sum wraps.
-fn run(field: &[u8], most: u64) -> Number
-    ensures { number result ≡ run_said most 0 field.now }
+// The number that digits are, where all are digits and it is no more than `most`.
+fn run(field: &[u8], most: u64) -> Option<u64>
+    ensures { result ≡ run_said most 0 field.now }
 {
     let mut n: u64 = 0;
-    let mut i = 0;
-    while i < field.len() {
-        let b = words::wide(field[i]);
-        if b < 48 {
-            return Number::Unread;
+    for &b in field {
+        if !b.is_ascii_digit() {
+            return None;
         }
-        if 57 < b {
-            return Number::Unread;
-        }
-        let digit = b - 48;
-        if most < digit {
-            return Number::Unread;
-        }
-        if (most - digit) / 10 < n {
-            return Number::Unread;
-        }
-        n = 10 * n + digit;
-        i += 1;
+        n = n.checked_mul(10)?.checked_add(u64::from(b - b'0'))?;
     }
-    Number::Is(n)
+    if most < n {
+        return None;
+    }
+    Some(n)
 }
 
 // A number from 0 to `most`: decimal digits without needless zeros.
-pub fn read_number(field: &[u8], most: u64) -> Number
-    ensures { number result ≡ number_said most field.now }
+pub fn read_number(field: &[u8], most: u64) -> Option<u64>
+    ensures { result ≡ number_said most field.now }
 {
-    if field.len() == 0 {
-        return Number::Unread;
+    if field.is_empty() {
+        return None;
     }
-    if field.len() == 1 {
-        return run(field, most);
-    }
-    if field[0] == 48 {
-        return Number::Unread;
+    if 1 < field.len() && field[0] == b'0' {
+        return None;
     }
     run(field, most)
 }
 
 // A signed number of 64 bits: only here a minus may stand, and not before 0.
-pub fn read_weight(field: &[u8]) -> Weight
-    ensures { weight result ≡ weight_said field.now }
+pub fn read_weight(field: &[u8]) -> Option<i64>
+    ensures { result ≡ weight_said field.now }
 {
-    if field.len() == 0 {
-        return Weight::Unread;
-    }
-    if field[0] == 45 {
-        let below = read_number(&field[1..], HALF);
-        let Number::Is(n) = below else {
-            return Weight::Unread;
-        };
+    if let Some(digits) = field.strip_prefix(b"-") {
+        let n = read_number(digits, i64::MIN.unsigned_abs())?;
         if n == 0 {
-            return Weight::Unread;
+            return None;
         }
-        return Weight::Is(values::from_bits(TOP - n + 1));
+        return Some(n.wrapping_neg().cast_signed());
     }
-    let above = read_number(field, HALF - 1);
-    let Number::Is(n) = above else {
-        return Weight::Unread;
-    };
-    Weight::Is(values::from_bits(n))
+    let n = read_number(field, i64::MAX.unsigned_abs())?;
+    Some(n.cast_signed())
 }
 
 // How many digits a number has.
@@ -98,7 +58,7 @@ fn size(n: u64) -> usize
     let mut count = 1;
     let mut rest = n;
     while 10 <= rest {
-        rest = rest / 10;
+        rest /= 10;
         count += 1;
     }
     count
@@ -110,12 +70,10 @@ fn write_digits(out: &mut [u8], at: usize, n: u64) -> usize
     ensures { (out.new ≡ put out.old at (decimal n)) × (result ≡ at + length (decimal n)) }
 {
     let count = size(n);
-    let mut j = count;
     let mut rest = n;
-    while 0 < j {
-        out[at + (j - 1)] = (48 + rest % 10) as u8;
-        rest = rest / 10;
-        j -= 1;
+    for j in (0..count).rev() {
+        out[at + j] = b'0' + (rest % 10) as u8;
+        rest /= 10;
     }
     at + count
 }
@@ -133,10 +91,9 @@ pub fn write_signed(out: &mut [u8], at: usize, n: i64) -> usize
     requires { at + 20 ≤ length out.old }
     ensures { (out.new ≡ put out.old at (signed n)) × (result ≡ at + length (signed n)) }
 {
-    let bits = values::to_bits(n);
-    if bits < HALF {
-        return write_digits(out, at, bits);
+    if n < 0 {
+        out[at] = b'-';
+        return write_digits(out, at + 1, n.unsigned_abs());
     }
-    out[at] = 45;
-    write_digits(out, at + 1, TOP - bits + 1)
+    write_digits(out, at, n.unsigned_abs())
 }

@@ -4,28 +4,27 @@ use Rattle.std.specs.Borrow.{Bor}
 use Rattle.std.proofs.Common.{sym, ap, ◌∙◌, arith, le-leb, leb-true, ne_eqb}
 use Rattle.std.proofs.lemmas.Bool.{lt-leb}
 use Rattle.rules.specs.LookUp.{same}
-use Rattle.rules.specs.Replay.{LineCall, freshes, gets, deletes, unreadable, Said, says, unread, is_decimal, digits_from, number_said, weight_said, highest, fresh_word, set_word, get_word, delete_word, fresh_said, key_said, boolean_said, number_value, value_said, set_said, kind_said, parts_from, parts_of, parts_say, call_of}
-use Rattle.rules.specs.Replay as replay
+use Rattle.rules.specs.Replay.{LineCall, freshes, gets, deletes, unreadable, Value, is_decimal, digits_from, number_said, weight_said, highest, fresh_word, set_word, get_word, delete_word, fresh_said, key_said, boolean_said, number_value, value_said, set_said, kind_said, parts_from, parts_of, parts_say, call_of}
 use Rattle.lines.specs.Saying.{Cut}
 
 -- ---- numbers
 
 -- a number that is read is no more than the highest
-pub most_said : (field : List ℕ) {most n : ℕ} → says n ≡ number_said most field → n ≤ most
+pub most_said : (field : List ℕ) {most n : ℕ} → Some n ≡ number_said most field → n ≤ most
 unfolding number_said
 most_said field {most} {n} e = go (is_decimal field) (leb d most) refl e
   where
     d : ℕ
     d = digits_from 0 field
 
-    go : (s t : Bool) → leb d most ≡ t → says n ≡ cond (s && t) (says d) unread → n ≤ most
+    go : (s t : Bool) → leb d most ≡ t → Some n ≡ cond (s && t) (Some d) None → n ≤ most
     go true true q i = let same_number : n ≡ d = cc in omega (arith, leb-true d most q)
     go true false q i = absurd (let z : ◌≡◌ {A = ℕ} 0 1 = cc in omega arith)
     go false t q i = absurd (let z : ◌≡◌ {A = ℕ} 0 1 = cc in omega arith)
 
 -- ---- two fields, and three
 
-pub fresh_says : (word count : List ℕ) {s : Said ℕ} → true ≡ same word fresh_word → s ≡ number_said 1024 count → fresh_said s ≡ parts_say (word ∷ count ∷ [])
+pub fresh_says : (word count : List ℕ) {s : Option ℕ} → true ≡ same word fresh_word → s ≡ number_said 1024 count → fresh_said s ≡ parts_say (word ∷ count ∷ [])
 unfolding parts_say
 fresh_says word count w e = ap fresh_said e ∙ ap (λ (b : Bool). cond b (fresh_said (number_said 1024 count)) unreadable) w
 
@@ -33,51 +32,51 @@ pub fresh_other : (word count : List ℕ) → false ≡ same word fresh_word →
 unfolding parts_say
 fresh_other word count w = ap (λ (b : Bool). cond b (fresh_said (number_said 1024 count)) unreadable) w
 
-pub fresh_is : {n : ℕ} → (n ≡ 0 → ⊥) → freshes n ≡ fresh_said (says n)
+pub fresh_is : {n : ℕ} → (n ≡ 0 → ⊥) → freshes n ≡ fresh_said (Some n)
 unfolding fresh_said
 fresh_is {n} h = sym (ap (λ (b : Bool). cond b (freshes n) unreadable) (le-leb 1 n (omega arith)))
 
-pub key_says : (clock word key : List ℕ) {s : Said ℕ} → s ≡ number_said highest clock → key_said word key s ≡ parts_say (clock ∷ word ∷ key ∷ [])
+pub key_says : (clock word key : List ℕ) {s : Option ℕ} → s ≡ number_said highest clock → key_said word key s ≡ parts_say (clock ∷ word ∷ key ∷ [])
 unfolding parts_say
 key_says clock word key e = ap (key_said word key) e
 
 module _ (n : ℕ) (word key : List ℕ) where
-  pub get_is : true ≡ same word get_word → gets n key ≡ key_said word key (says n)
+  pub get_is : true ≡ same word get_word → gets n key ≡ key_said word key (Some n)
   unfolding key_said
   get_is w = ap (λ (b : Bool). cond b (gets n key) (cond (same word delete_word) (deletes n key) unreadable)) w
 
-  second_word : {c : LineCall} → false ≡ same word get_word → c ≡ cond (same word delete_word) (deletes n key) unreadable → c ≡ key_said word key (says n)
+  second_word : {c : LineCall} → false ≡ same word get_word → c ≡ cond (same word delete_word) (deletes n key) unreadable → c ≡ key_said word key (Some n)
   unfolding key_said
   second_word w e = e ∙ ap (λ (b : Bool). cond b (gets n key) (cond (same word delete_word) (deletes n key) unreadable)) w
 
-  pub delete_is : false ≡ same word get_word → true ≡ same word delete_word → deletes n key ≡ key_said word key (says n)
+  pub delete_is : false ≡ same word get_word → true ≡ same word delete_word → deletes n key ≡ key_said word key (Some n)
   delete_is g d = second_word g (ap (λ (b : Bool). cond b (deletes n key) unreadable) d)
 
-  pub word_other : false ≡ same word get_word → false ≡ same word delete_word → unreadable ≡ key_said word key (says n)
+  pub word_other : false ≡ same word get_word → false ≡ same word delete_word → unreadable ≡ key_said word key (Some n)
   word_other g d = second_word g (ap (λ (b : Bool). cond b (deletes n key) unreadable) d)
 
 -- ---- the value's field
 
 module _ (kind : ℕ) (field : List ℕ) where
-  pub boolean_says : {s : Said ℕ} → kind ≡ 1 → s ≡ number_said 1 field → boolean_said s ≡ value_said kind field
+  pub boolean_says : {s : Option ℕ} → kind ≡ 1 → s ≡ number_said 1 field → boolean_said s ≡ value_said kind field
   unfolding value_said
   boolean_says k e = ap boolean_said e ∙ sym (ap (λ (n : ℕ). value_said n field) k)
 
-  pub weight_says : {s : Said ℤ} → kind ≡ 3 → s ≡ weight_said field → number_value s ≡ value_said kind field
+  pub weight_says : {s : Option ℤ} → kind ≡ 3 → s ≡ weight_said field → number_value s ≡ value_said kind field
   unfolding value_said
   weight_says k e = ap number_value e ∙ sym (ap (λ (n : ℕ). value_said n field) k)
 
-  pub text_says : kind ≡ 4 → says (record { number = pos 0; text = field }) ≡ value_said kind field
+  pub text_says : kind ≡ 4 → Some (record { number = pos 0; text = field }) ≡ value_said kind field
   unfolding value_said
   text_says k = sym (ap (λ (n : ℕ). value_said n field) k)
 
-  pub other_says : (kind ≡ 1 → ⊥) → (kind ≡ 3 → ⊥) → (kind ≡ 4 → ⊥) → says (record { number = pos 0; text = [] }) ≡ value_said kind field
+  pub other_says : (kind ≡ 1 → ⊥) → (kind ≡ 3 → ⊥) → (kind ≡ 4 → ⊥) → Some (record { number = pos 0; text = [] }) ≡ value_said kind field
   unfolding value_said
   other_says a b c = sym (simp (ne_eqb kind 1 a, ne_eqb kind 3 b, ne_eqb kind 4 c))
 
 -- ---- a `set`
 
-pub set_says : (clock key kind value lifetime flags : List ℕ) {n : ℕ} {t l m : Said ℕ} {v : Said replay.Value} → says n ≡ number_said 255 kind → t ≡ number_said highest clock → v ≡ value_said n value → l ≡ number_said highest lifetime → m ≡ number_said (2 ^ 32 - 1) flags → set_said key t n v l m ≡ kind_said clock key (number_said 255 kind) value lifetime flags
+pub set_says : (clock key kind value lifetime flags : List ℕ) {n : ℕ} {t l m : Option ℕ} {v : Option Value} → Some n ≡ number_said 255 kind → t ≡ number_said highest clock → v ≡ value_said n value → l ≡ number_said highest lifetime → m ≡ number_said (2 ^ 32 - 1) flags → set_said key t n v l m ≡ kind_said clock key (number_said 255 kind) value lifetime flags
 unfolding kind_said
 set_says clock key kind value lifetime flags ek et ev el em = rw (← ek, et, ev, el, em) refl
 

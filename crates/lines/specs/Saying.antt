@@ -1,15 +1,9 @@
 -- What the code's answers say, in the terms of chapter "Replay lines".
 use Rattle.std.specs.Prelude.{◌≡◌, List, [], ◌∷◌, ℕ, ◌≤◌, ℤ, Option, Some, None, MatchOption}
 use Rattle.std.specs.Borrow.{Bor}
-use Rattle.rules.specs.Replay.{LineCall, freshes, sets, gets, deletes, unreadable, Said, says, unread, parts_of}
-use Rattle.rules.specs.Replay as replay
+use Rattle.rules.specs.Replay.{LineCall, freshes, sets, gets, deletes, unreadable, Value, parts_of}
 use Rattle.lines.specs.declared.Call.{Call}
 use Rattle.lines.specs.declared.Call.TheVariants.{Fresh, Set, Get, Delete}
-
--- what is read, or nothing that is understood
-abbrev pub told : {A : Type 0} → Option A → Said A
-told (Some n) = says n
-told None = unread
 
 -- the call that is read
 abbrev pub said : Option Call → LineCall
@@ -32,6 +26,6 @@ abbrev pub Cut : List ℕ → Option (Bor (List ℕ) × Bor (List ℕ)) → Type
 Cut fields r = MatchOption r (parts_of fields ≡ fields ∷ []) (λ p. parts_of fields ≡ p.0.now ∷ parts_of p.1.now)
 
 -- the number and the text that a value's field says
-abbrev pub value : Option (ℤ × Bor (List ℕ)) → Said replay.Value
-value (Some p) = says (record { number = p.0; text = p.1.now })
-value None = unread
+abbrev pub value : Option (ℤ × Bor (List ℕ)) → Option Value
+value (Some p) = Some (record { number = p.0; text = p.1.now })
+value None = None

@@ -2,10 +2,10 @@
 #![tactic(auto)]
 
 ghost use Rattle.std.specs.Prelude.{◌≡◌, List, [], ◌∷◌};
-ghost use Rattle.rules.specs.Replay.{number_said, weight_said, value_said, kind_said, parts_of, parts_say, call_of};
-ghost use Rattle.lines.specs.Saying.{said, told, Cut, value, Fine};
+ghost use Rattle.rules.specs.Replay.{number_said, value_said, kind_said, parts_of, parts_say, call_of};
+ghost use Rattle.lines.specs.Saying.{said, Cut, value, Fine};
 
-use decimals::{Number, Weight};
+use decimals::{read_number, read_weight};
 
 // A call that a line makes. Keys and texts stand in the line.
 #[derive(Clone, Copy, Debug, PartialEq, Eq)]
@@ -41,26 +41,6 @@ fn cut(fields: &[u8]) -> Option<(&[u8], &[u8])>
         return None;
     }
     Some((&fields[..end], &fields[end + 1..]))
-}
-
-// The number that a field says, from 0 to `most`.
-fn read_number(field: &[u8], most: u64) -> Option<u64>
-    ensures { told result ≡ number_said most field.now }
-{
-    match decimals::read_number(field, most) {
-        Number::Is(n) => Some(n),
-        Number::Unread => None,
-    }
-}
-
-// The signed number that a field says.
-fn read_weight(field: &[u8]) -> Option<i64>
-    ensures { told result ≡ weight_said field.now }
-{
-    match decimals::read_weight(field) {
-        Weight::Is(number) => Some(number),
-        Weight::Unread => None,
-    }
 }
 
 // Two fields: `fresh` and P.

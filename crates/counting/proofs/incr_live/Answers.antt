@@ -20,10 +20,10 @@ pub number_at-requires : goal.number_at-requires
 number_at-requires c = omega (arith, entry_inside _ _ c.requires.pool_value _ c.requires.i_in_bounds _ c.record_at-e.ensures, number_eight _ _ _ _ c.record_at-e.ensures c.requires.pool_value c.requires.i_in_bounds c.if-e-ne3.false)
 
 pub returns-in_default : goal.returns-in_default
-returns-in_default c = live_out _ _ _ _ _ _ c.record_at-e.ensures _ (given_sound _ _ c.requires.pool_value).dir_is c.if-e-ne3.false (add_told (held_is c.number_at.type_inv c.number_at.ensures) (to_z-of_z {w = w64} c.ranges.step) c.add-sum.ensures c.in_default.is) c.plain-in_default.ensures
+returns-in_default c = live_out _ _ _ _ _ _ c.record_at-e.ensures _ (given_sound _ _ c.requires.pool_value).dir_is c.if-e-ne3.false (add_told (held_is c.number_at.type_inv c.number_at.ensures) (to_z-of_z {w = w64} c.ranges.step) c.add.ensures c.in_default.is) c.plain-in_default.ensures
 
 pub rewrite_at-requires : goal.rewrite_at-requires
 rewrite_at-requires c = record { pool_value = c.requires.pool_value; i_in_bounds = c.requires.i_in_bounds; value_len = ap length c.number_bytes-bytes.ensures ∙ length_number _ ∙ sym (number_eight _ _ _ _ c.record_at-e.ensures c.requires.pool_value c.requires.i_in_bounds c.if-e-ne3.false) ∙ ap (λ e. e.vlen) c.record_at-e.ensures }
 
 pub returns : goal.returns
-returns c = live_sum _ _ _ _ _ _ c.record_at-e.ensures _ _ c.if-e-ne3.false (add_told (held_is c.number_at.type_inv c.number_at.ensures) (to_z-of_z {w = w64} c.ranges.step) c.add-sum.ensures c.in-Is.is) c.number_bytes-bytes.ensures c.rewrite_at.ensures c.plain-2.ensures
+returns c = live_sum _ _ _ _ _ _ c.record_at-e.ensures _ _ c.if-e-ne3.false (add_told (held_is c.number_at.type_inv c.number_at.ensures) (to_z-of_z {w = w64} c.ranges.step) c.add.ensures c.in-Some.is) c.number_bytes-bytes.ensures c.rewrite_at.ensures c.plain-2.ensures

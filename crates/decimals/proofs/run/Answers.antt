@@ -1,31 +1,25 @@
--- `decimals::run` meets its contract. The loop's invariant: the bytes before i are digits, and n is their number.
-use Rattle.decimals.specs.Reading.{number}
-use Rattle.decimals.specs.ReadingLaws.{run_none, run_low, run_high, run_stop, run_more, run_done}
-use native.Mathlib.Omega.{arith}
+-- `decimals::run` meets its contract. The loop's invariant: the bytes before the index are digits, and n is their number.
+use Rattle.std.proofs.Common.{sym, ◌∙◌, arith}
+use Rattle.decimals.specs.ReadingLaws.{run_none, run_stop, run_more, run_large, run_high, run_done}
 use Rattle.decimals.proofs.run.Goals as goal
 
-pub loop-i-init : goal.loop-i-init
-loop-i-init c = run_none
+pub loop-b-init : goal.loop-b-init
+loop-b-init c = run_none
 
-pub returns-then-b-lt48 : goal.returns-then-b-lt48
-unfolding number
-returns-then-b-lt48 c = run_low _ c.wide-b.ensures.0 (omega arith) c.loop-i.invariant (omega arith)
+pub returns-then-not-is_ascii_digit : goal.returns-then-not-is_ascii_digit
+returns-then-not-is_ascii_digit c = run_stop c.loop-b.invariant c.loop-b-test.true (sym c.is_ascii_digit.ensures.value ∙ c.if-not-is_ascii_digit.true)
 
-pub returns-then-b-gt57 : goal.returns-then-b-gt57
-unfolding number
-returns-then-b-gt57 c = run_high _ c.wide-b.ensures.0 (omega arith) c.loop-i.invariant (omega arith)
+pub returns-in_err-checked_mul : goal.returns-in_err-checked_mul
+returns-in_err-checked_mul c = c.from_residual.ensures ∙ run_large c.loop-b.invariant c.loop-b-test.true (sym c.is_ascii_digit.ensures.value ∙ c.if-not-is_ascii_digit.false) (omega (arith, c.in_err-checked_mul.ensures))
 
-pub returns-then-most-digit : goal.returns-then-most-digit
-unfolding number
-returns-then-most-digit c = run_stop _ c.wide-b.ensures.0 (omega arith) c.loop-i.invariant (omega arith) (omega arith) (omega arith)
+pub returns-in_err-n : goal.returns-in_err-n
+returns-in_err-n c = c.from_residual-in_err-n.ensures ∙ run_large c.loop-b.invariant c.loop-b-test.true (sym c.is_ascii_digit.ensures.value ∙ c.if-not-is_ascii_digit.false) (omega (arith, c.in_ok-checked_mul.ensures, c.from.ensures, c.in_err-n.ensures))
 
-pub returns-then-most-digit-2 : goal.returns-then-most-digit-2
-unfolding number
-returns-then-most-digit-2 c = run_stop _ c.wide-b.ensures.0 (omega arith) c.loop-i.invariant (omega arith) (omega arith) (omega arith)
+pub loop-b-preserved : goal.loop-b-preserved
+loop-b-preserved c = run_more c.loop-b.invariant c.loop-b-test.true (sym c.is_ascii_digit.ensures.value ∙ c.if-not-is_ascii_digit.false) (omega (arith, c.in_ok-checked_mul.ensures, c.from.ensures, c.in_ok-n.ensures))
 
-pub loop-i-preserved : goal.loop-i-preserved
-loop-i-preserved c = run_more _ c.wide-b.ensures.0 (omega arith) c.loop-i.invariant (omega arith) (omega arith) (omega arith)
+pub returns-then-most-n : goal.returns-then-most-n
+returns-then-most-n c = run_high c.loop-b.invariant c.if-most-n.true
 
 pub returns : goal.returns
-unfolding number
-returns c = run_done c.loop-i.invariant (omega arith)
+returns c = run_done c.loop-b.invariant c.loop-b-test.false c.if-most-n.false

@@ -6,6 +6,3 @@ use Rattle.decimals.proofs.write_digits.Given as goal
 
 abbrev pub invariant-loop-j : goal.invariant-loop-j
 invariant-loop-j l = Unwritten l.initial.out l.at (decimal l.n) l.j l.out × Unsaid (decimal l.n) l.j l.rest
-
-abbrev pub decreases-loop-j : goal.decreases-loop-j
-decreases-loop-j l = l.j

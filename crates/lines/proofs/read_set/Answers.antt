@@ -1,6 +1,7 @@
 -- `lines::read_set` meets its contract.
 use Rattle.std.proofs.Common.{ap, ◌∙◌, arith, rules, ℕ, ℤ, refl}
-use Rattle.rules.specs.Replay.{Said, sets, number_said, set_said, kind_said}
+use Rattle.std.specs.Prelude.{Option}
+use Rattle.rules.specs.Replay.{sets, number_said, set_said, kind_said}
 use Rattle.values.specs.Bits.{held_is}
 use Rattle.lines.specs.Saying.{said}
 use Rattle.lines.specs.CallLaws.{most_said, set_says}
@@ -8,7 +9,7 @@ use Rattle.lines.proofs.read_set.Goals as goal
 
 pub returns-in_err-kind-clause-call : goal.returns-in_err-kind-clause-call
 unfolding kind_said
-returns-in_err-kind-clause-call c = ap said c.from_residual.ensures ∙ ap (λ (k : Said ℕ). kind_said c.args.clock.now c.args.key.now k c.args.value.now c.args.lifetime.now c.args.flags.now) c.in_err-kind.ensures
+returns-in_err-kind-clause-call c = ap said c.from_residual.ensures ∙ ap (λ (k : Option ℕ). kind_said c.args.clock.now c.args.key.now k c.args.value.now c.args.lifetime.now c.args.flags.now) c.in_err-kind.ensures
 
 pub returns-in_err-clock-clause-call : goal.returns-in_err-clock-clause-call
 unfolding set_said

@@ -6,4 +6,4 @@ use Rattle.values.proofs.number_at.Goals as goal
 
 pub returns : goal.returns
 unfolding number_at
-returns c = held_is c.from_bits.type_inv (c.from_bits.ensures ∙ ap (to_z w64) c.load8.ensures)
+returns c = held_is c.cast_signed.type_inv (c.cast_signed.ensures ∙ ap (to_z w64) c.load8.ensures)

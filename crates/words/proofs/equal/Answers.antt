@@ -1,7 +1,5 @@
--- `words::equal` meets its contract. The invariant of both loops: no byte from n on differs.
-use mathlib.Core.Path.{sym, ◌∙◌}
-use Prim.Native.Nat.{◌-◌}
-use native.Mathlib.Omega.{arith}
+-- `words::equal` meets its contract. The loop's invariant: no byte from n on differs.
+use Rattle.std.proofs.Common.{◌-◌, sym, ◌∙◌, arith}
 use Rattle.words.specs.SameLaws.{same_lengths, agree_start, agree_more, agree_stop, agree_byte, agree_not, agree_end}
 use Rattle.words.proofs.equal.Goals as goal
 
@@ -17,14 +15,14 @@ returns-then-load8 c = agree_stop (c.loop-n.n - 8) 8 c.loop-n.invariant (omega a
 pub loop-n-preserved : goal.loop-n-preserved
 loop-n-preserved c = agree_more (c.loop-n.n - 8) 8 c.loop-n.invariant (omega arith) (λ i. omega (arith, c.type_inv.a i)) (λ i. omega (arith, c.type_inv.b i)) (sym c.load8.ensures ∙ c.if-load8.false ∙ c.load8-in-loop-n.ensures)
 
-pub loop-n-2-init : goal.loop-n-2-init
-loop-n-2-init c = c.loop-n.invariant
+pub loop-k-init : goal.loop-k-init
+loop-k-init c = c.loop-n.invariant
 
-pub returns-then-a-n : goal.returns-then-a-n
-returns-then-a-n c = agree_not (c.loop-n-2.n - 1) c.loop-n-2.invariant (omega arith) (λ i. omega (arith, c.type_inv.a i)) (λ i. omega (arith, c.type_inv.b i)) c.if-a-n.true
+pub returns-then-a-k : goal.returns-then-a-k
+returns-then-a-k c = agree_not (c.loop-k.k - 1) c.loop-k.invariant (omega arith) (λ i. omega (arith, c.type_inv.a i)) (λ i. omega (arith, c.type_inv.b i)) c.if-a-k.true
 
-pub loop-n-2-preserved : goal.loop-n-2-preserved
-loop-n-2-preserved c = agree_byte (c.loop-n-2.n - 1) c.loop-n-2.invariant (omega arith) (λ i. omega (arith, c.type_inv.a i)) (λ i. omega (arith, c.type_inv.b i)) c.if-a-n.false
+pub loop-k-preserved : goal.loop-k-preserved
+loop-k-preserved c = agree_byte (c.loop-k.k - 1) c.loop-k.invariant (omega arith) (λ i. omega (arith, c.type_inv.a i)) (λ i. omega (arith, c.type_inv.b i)) c.if-a-k.false
 
 pub returns : goal.returns
-returns c = agree_end c.loop-n-2.invariant (omega arith)
+returns c = agree_end c.loop-k.invariant (omega arith)
