@@ -1,5 +1,5 @@
 -- The lent memory, in the terms of chapter "Replay lines".
-use Rattle.std.specs.Prelude.{◌≡◌}
+use Rattle.std.specs.Prelude.{◌≡◌, length}
 use Rattle.rules.specs.Replay.{Replay}
 use Rattle.replay_calls.specs.declared.Lent.{Lent}
 use Rattle.replay_calls.specs.Front.{state}
@@ -9,5 +9,8 @@ abbrev pub left : Lent → Replay
 left m = state m.cells m.dir.now m.pool.now
 
 -- the same buffers are lent
-abbrev pub Same : Lent → Lent → Type 0
-Same m n = (n.dir.ghost_name ≡ m.dir.ghost_name) × (n.pool.ghost_name ≡ m.pool.ghost_name)
+pub record Same (m n : Lent) : Type 0 where
+  pub dir : n.dir.ghost_name ≡ m.dir.ghost_name
+  pub pool : n.pool.ghost_name ≡ m.pool.ghost_name
+  pub words : length n.dir.now ≡ length m.dir.now
+  pub bytes : length n.pool.now ≡ length m.pool.now

@@ -22,6 +22,13 @@ pub struct Lent<'a> {
 impl Lent<'_> {
     ghost use Rattle.replay_calls.specs.Lent.{left, Same};
 
+    // The pool's bytes, to be read.
+    pub fn bytes(&self) -> &[u8]
+        ensures { result.now ≡ self.now.pool.now }
+    {
+        &self.pool[..]
+    }
+
     // Refuses where there is nothing to look in.
     fn check_in_use(&self) -> Result<(), Refusal>
         ensures { result ≡ in_use_check self.now.cells }
