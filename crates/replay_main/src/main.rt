@@ -6,11 +6,10 @@ ghost use Rattle.std.specs.Io.KnownBytes.{Appends};
 ghost use Rattle.rules.specs.Replay.{header};
 ghost use Rattle.rules.specs.Soundness.{every};
 ghost use Rattle.scanning.specs.Until.{other};
-ghost use Rattle.replay_calls.specs.Front.{Ready};
 ghost use Rattle.replay.specs.Whole.{held};
 ghost use Rattle.replay_main.specs.Rest.{IsRest};
-ghost use Rattle.replay_main.specs.Sole.{ready_sole};
 
+use replay_calls::Lent;
 use std::env::{Env, FillError};
 use std::fs::Files;
 use std::io::{Error, ErrorKind, Print, Read, Write};
@@ -41,29 +40,25 @@ fn fail<E: Print>(errors: &E, what: &[u8], why: Error) {
 
 // ---- lines
 
-// Where lines are done: the output, the memory with the number of its cells in use, room for what is written next, and the number of lines done.
+// Where lines are done: the output, the memory, room for what is written next, and the number of lines done.
 #[derive(Drop)]
-struct Lines<W> {
+struct Lines<'m, W> {
     output: W,
-    dir: [u64; 6146],
-    pool: [u8; 32768],
+    memory: Lent<'m>,
     out: [u8; 65536],
-    cells: usize,
     count: u64,
-    ghost ready: { Ready cells dir pool } by { ready_sole cells dir pool },
+    ghost room: { length memory.pool.now ≤ 32768 },
 }
 
-impl<W: Write> Lines<W> {
-    // A memory that no `fresh` has touched.
-    fn new(output: W) -> Self
+impl<'m, W: Write> Lines<'m, W> {
+    fn new(output: W, memory: Lent<'m>) -> Self
+        requires { length memory.pool.now ≤ 32768 }
         ensures { result.count ≡ 0 }
     {
         Lines {
             output,
-            dir: [0; 6146],
-            pool: [0; 32768],
+            memory,
             out: [0; 65536],
-            cells: 0,
             count: 0,
         }
     }
@@ -86,19 +81,11 @@ impl<W: Write> Lines<W> {
     {
         let mut rest = input;
         while !rest.is_empty() {
-            let p = replay::run(
-                &mut self.dir,
-                &mut self.pool,
-                self.cells,
-                self.count,
-                rest,
-                &mut self.out,
-            );
-            self.cells = p.cells;
-            self.count = p.lines;
-            rest = &rest[p.consumed..];
-            self.output.write_all(&self.out[..p.written])?;
-            if 160 + self.pool.len() <= self.out.len() - p.written {
+            let done = replay::run(&mut self.memory, self.count, rest, &mut self.out);
+            self.count = done.lines;
+            rest = &rest[done.consumed..];
+            self.output.write_all(&self.out[..done.written])?;
+            if 160 + self.memory.pool.len() <= self.out.len() - done.written {
                 break;
             }
         }
@@ -137,16 +124,18 @@ impl Waiting {
 
 // Replays inputs, piece by piece.
 #[derive(Drop)]
-struct Replay<W> {
-    lines: Lines<W>,
+struct Replay<'m, W> {
+    lines: Lines<'m, W>,
     waiting: Waiting,
     piece: [u8; 65536],
 }
 
-impl<W: Write> Replay<W> {
-    fn new(output: W) -> Self {
+impl<'m, W: Write> Replay<'m, W> {
+    fn new(output: W, memory: Lent<'m>) -> Self
+        requires { length memory.pool.now ≤ 32768 }
+    {
         Replay {
-            lines: Lines::new(output),
+            lines: Lines::new(output, memory),
             waiting: Waiting {
                 bytes: [0; 4097],
                 count: 0,
@@ -278,7 +267,7 @@ fn open<S: Files>(rt: &S, name: &[u8]) -> io::Result<S::File> {
 // Writes the header, and replays standard input, or the files that the arguments name, one after the other.
 fn replay_inputs<W: Write, E: Print>(
     rt: &HostRuntime,
-    replay: &mut Replay<W>,
+    replay: &mut Replay<'_, W>,
     errors: &E,
 ) -> io::Result<()> {
     replay.lines.begin()?;
@@ -293,7 +282,15 @@ fn replay_inputs<W: Write, E: Print>(
 }
 
 fn main(rt: HostRuntime) {
-    let mut replay = Replay::new(rt.stdout());
+    let mut dir = [0; 6146];
+    let mut pool = [0; 32768];
+    // No `fresh` has touched it.
+    let memory = Lent {
+        dir: &mut dir,
+        pool: &mut pool,
+        cells: 0,
+    };
+    let mut replay = Replay::new(rt.stdout(), memory);
     let errors = rt.stderr();
     if let Err(why) = replay_inputs(&rt, &mut replay, &errors) {
         fail(&errors, b"standard output", why);
