@@ -16,10 +16,7 @@ said None = unreadable
 -- P is one that a memory may have
 abbrev pub Fine : Option Call → Type 0
 Fine (Some (Fresh cells)) = (1 ≤ cells) × (cells ≤ 1024)
-Fine (Some (Set clock key kind number text lifetime flags)) = Unit {0}
-Fine (Some (Get clock key)) = Unit {0}
-Fine (Some (Delete clock key)) = Unit {0}
-Fine None = Unit {0}
+Fine _ = Unit {0}
 
 -- a first field and those behind it, or an only one
 abbrev pub Cut : List ℕ → Option (Bor (List ℕ) × Bor (List ℕ)) → Type 0
