@@ -1,20 +1,16 @@
--- Fields of a line: one, and those behind it.
-use Rattle.std.specs.Prelude.{◌≡◌, Bool, true, cond, eqb}
-use Rattle.std.proofs.Common.{sym, ◌∙◌, take-append-drop, drop_of_length-le, drop-cons, drop-drop}
+-- Fields: the first one, and those behind it.
+use Rattle.std.specs.Prelude.{◌≡◌, Bool, true, cond, eqb, ◌<◌, take}
+use Rattle.std.proofs.Common.{sym, ◌∙◌, take-append-drop, drop_of_length-le, drop-cons, length-drop, take_all}
 use Rattle.std.proofs.Math.Path.{ap}
 use mathlib.Core.List.{List, [], ◌∷◌, ◌++◌, append_assoc, append-nil}
-use Prim.Native.Nat.{ℕ, suc, ◌+◌, ◌-◌, ◌≤◌, ◌<◌}
+use Prim.Native.Nat.{ℕ, suc, ◌+◌, ◌-◌, ◌≤◌}
 use native.Mathlib.Omega.{arith}
 use Rattle.std.proofs.Math.ListN.{length, drop}
 use Rattle.std.proofs.lemmas.Bool.{not-true}
-use Rattle.rules.specs.Layout.{part}
 use Rattle.rules.specs.Soundness.{every}
-use Rattle.scanning.specs.Until.{other}
+use Rattle.scanning.specs.Until.{other, Until}
 use Rattle.rules.specs.Replay.{parts_from, parts_of}
 use Rattle.laws.specs.Booleans.{and_left, and_right}
-use Rattle.lines.specs.Saying.{field, FieldEnd}
-
--- ---- the fields of a line from one on
 
 parts_plain : (begun a rest : List ℕ) → every (other 9) a ≡ true → parts_from begun (a ++ rest) ≡ parts_from (begun ++ a) rest
 unfolding every parts_from
@@ -24,28 +20,28 @@ parts_plain begun (b ∷ a) rest e =
     ∙ parts_plain (begun ++ (b ∷ [])) a rest (and_right (other 9 b) (every (other 9) a) e)
     ∙ ap (λ (x : List ℕ). parts_from x rest) (append_assoc begun (b ∷ []) a)
 
-module _ {line : List ℕ} {from end : ℕ} (f : FieldEnd line from end) where
-  split : parts_of (drop from line) ≡ parts_from (field line from end) (drop end line)
+module _ {fields : List ℕ} {end : ℕ} (f : Until 9 fields 0 end) where
+  first : parts_of fields ≡ parts_from (take end fields) (drop end fields)
   unfolding parts_of
-  split =
-      let k : ℕ = end - from in
-      let e : from + k ≡ end = omega (arith, f.after) in
-      ap (parts_from []) (sym (take-append-drop k (drop from line)) ∙ ap (λ (x : List ℕ). part line from k ++ x) (drop-drop k from line ∙ ap (λ (m : ℕ). drop m line) e))
-      ∙ parts_plain [] (part line from k) (drop end line) f.nowhere
+  first =
+      let e : end ≡ end - 0 = omega arith in
+      ap (parts_from []) (sym (take-append-drop end fields))
+      ∙ parts_plain [] (take end fields) (drop end fields) (ap (λ (n : ℕ). every (other 9) (take n fields)) e ∙ f.nowhere)
 
-  -- a tab behind the field: it is one, and others follow
-  pub parts_more : {rest : List (List ℕ)} → end < length line → parts_of (drop (end + 1) line) ≡ rest → parts_of (drop from line) ≡ field line from end ∷ rest
-  unfolding parts_of parts_from
-  parts_more h r =
-      let e : suc end ≡ end + 1 = omega arith in
-      split
-      ∙ ap (parts_from (field line from end)) (drop-cons line end 0 h ∙ ap (λ (b : ℕ). b ∷ drop (suc end) line) (f.there h))
-      ∙ ap (λ (m : ℕ). field line from end ∷ parts_from [] (drop m line)) e
-      ∙ ap (λ (x : List (List ℕ)). field line from end ∷ x) r
-
-  -- the last field
-  pub parts_last : length line ≤ end → parts_of (drop from line) ≡ field line from (length line) ∷ []
+  -- no tab: it is the only one
+  pub cut_only : length fields ≤ end → parts_of fields ≡ fields ∷ []
   unfolding parts_from
-  parts_last h =
-      let e : end ≡ length line = omega (arith, f.inside) in
-      split ∙ ap (parts_from (field line from end)) (drop_of_length-le line {i = end} h) ∙ ap (λ (n : ℕ). field line from n ∷ []) e
+  cut_only h =
+      first
+      ∙ ap (parts_from (take end fields)) (drop_of_length-le fields {i = end} h)
+      ∙ ap (λ (x : List ℕ). x ∷ []) (take_all end fields h)
+
+  -- a tab behind it: others follow
+  pub cut_more : end < length fields → parts_of fields ≡ take end fields ∷ parts_of (take (length fields - (end + 1)) (drop (end + 1) fields))
+  unfolding parts_of parts_from
+  cut_more h =
+      let e : suc end ≡ end + 1 = omega arith in
+      first
+      ∙ ap (parts_from (take end fields)) (drop-cons fields end 0 h ∙ ap (λ (b : ℕ). b ∷ drop (suc end) fields) (f.there h))
+      ∙ ap (λ (m : ℕ). take end fields ∷ parts_from [] (drop m fields)) e
+      ∙ ap (λ (x : List ℕ). take end fields ∷ parts_from [] x) (sym (take_all (length fields - (end + 1)) (drop (end + 1) fields) (omega (arith, length-drop (end + 1) fields))))

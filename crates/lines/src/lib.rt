@@ -1,198 +1,151 @@
 // What a replay line says: its fields, and the call that they make.
 #![tactic(auto)]
 
-ghost use Rattle.std.specs.Prelude.{◌≡◌, ◌≤◌, ◌<◌, length};
-ghost use Rattle.rules.specs.Replay.{number_said, value_said, call_of};
-ghost use Rattle.lines.specs.Saying.{said, Inside, field, two_fields, three_fields, more_fields, set_fields, Means, Tells, FieldEnd};
+ghost use Rattle.std.specs.Prelude.{◌≡◌, List, [], ◌∷◌};
+ghost use Rattle.rules.specs.Replay.{number_said, value_said, kind_said, parts_of, parts_say, call_of};
+ghost use Rattle.lines.specs.Saying.{said, Cut, value, Fine};
 
-// A call that a line makes. Keys and texts stand in the line, from a first byte to behind a last one; the key of a get or delete ends with the line.
-#[derive(Clone, Copy)]
-pub enum Call {
+use decimals::{read_number, read_weight};
+
+// A call that a line makes. Keys and texts stand in the line.
+#[derive(Clone, Copy, Debug, PartialEq, Eq)]
+pub enum Call<'a> {
     Fresh {
         cells: usize,
     },
     Set {
         clock: u64,
-        key: usize,
-        key_end: usize,
+        key: &'a [u8],
         kind: u8,
         number: i64,
-        text: usize,
-        text_end: usize,
+        text: &'a [u8],
         lifetime: u64,
         flags: u32,
     },
     Get {
         clock: u64,
-        key: usize,
+        key: &'a [u8],
     },
     Delete {
         clock: u64,
-        key: usize,
+        key: &'a [u8],
     },
-    Unreadable,
 }
 
-// What a value's field says: a number, and a text that stands in the line, from a first byte to behind a last one.
-#[derive(Clone, Copy)]
-enum Value {
-    Is(i64, usize, usize),
-    Unread,
-}
-
-// Where the field that begins at `from` ends: at the next tab, or at the line's end.
-fn field_end(line: &[u8], from: usize) -> usize
-    requires { from ≤ length line.now }
-    ensures { FieldEnd line.now from result }
+// The first field of some that are parted by tabs, and the others; None where it is the only one.
+fn cut(fields: &[u8]) -> Option<(&[u8], &[u8])>
+    ensures { Cut fields.now result }
 {
-    scanning::find(line, from, 9)
+    let end = scanning::find(fields, 0, b'\t');
+    if end == fields.len() {
+        return None;
+    }
+    Some((&fields[..end], &fields[end + 1..]))
 }
 
-// The number that a field says, from 0 to `most`.
-fn read_field(line: &[u8], from: usize, end: usize, most: u64) -> Option<u64>
-    requires { (from ≤ end) × (end ≤ length line.now) }
-    ensures { result ≡ number_said most (field line.now from end) }
+// Two fields: `fresh` and P.
+fn read_fresh<'a>(word: &[u8], count: &[u8]) -> Option<Call<'a>>
+    ensures call { said result ≡ parts_say (word.now ∷ count.now ∷ []) }
+    ensures fine { Fine result }
 {
-    decimals::read_number(&line[from..end], most)
+    if !words::equal(word, b"fresh") {
+        return None;
+    }
+    let cells = read_number(count, 1024)?;
+    if cells == 0 {
+        return None;
+    }
+    Some(Call::Fresh {
+        cells: cells as usize,
+    })
 }
 
-// Two fields, parted by a tab at `a`: `fresh` and P.
-fn read_fresh(line: &[u8], a: usize) -> Call
-    requires { a < length line.now }
-    ensures { Means line.now result (two_fields line.now a) }
+// Three fields: the clock, `get` or `delete`, and the key.
+fn read_key<'a>(clock: &[u8], word: &[u8], key: &'a [u8]) -> Option<Call<'a>>
+    ensures call { said result ≡ parts_say (clock.now ∷ word.now ∷ key.now ∷ []) }
+    ensures fine { Fine result }
 {
-    if !words::equal(&line[0..a], b"fresh") {
-        return Call::Unreadable;
+    let clock = read_number(clock, u64::MAX)?;
+    if words::equal(word, b"get") {
+        return Some(Call::Get { clock, key });
     }
-    let Some(p) = read_field(line, a + 1, line.len(), 1024) else {
-        return Call::Unreadable;
-    };
-    if p == 0 {
-        return Call::Unreadable;
+    if words::equal(word, b"delete") {
+        return Some(Call::Delete { clock, key });
     }
-    Call::Fresh { cells: p as usize }
+    None
 }
 
-// Three fields, parted by tabs at `a` and `b`: the clock, `get` or `delete`, and the key.
-fn read_key(line: &[u8], a: usize, b: usize) -> Call
-    requires { (a < b) × (b < length line.now) }
-    ensures { Means line.now result (three_fields line.now a b) }
+// The number and the text that a value's field says, by its kind. For other kinds than 1, 3 and 4 the field is not read.
+fn read_value(field: &[u8], kind: u64) -> Option<(i64, &[u8])>
+    ensures { value result ≡ value_said kind field.now }
 {
-    let Some(clock) = read_field(line, 0, a, u64::MAX) else {
-        return Call::Unreadable;
-    };
-    let word = a + 1;
-    if words::equal(&line[word..b], b"get") {
-        return Call::Get { clock, key: b + 1 };
+    match kind {
+        1 => Some((read_number(field, 1)? as i64, &[])),
+        3 => Some((read_weight(field)?, &[])),
+        4 => Some((0, field)),
+        _ => Some((0, &[])),
     }
-    if words::equal(&line[word..b], b"delete") {
-        return Call::Delete { clock, key: b + 1 };
-    }
-    Call::Unreadable
 }
 
-// The value that a field says, by its kind. For other kinds than 1, 3 and 4 the field is not read.
-fn read_value(line: &[u8], from: usize, end: usize, kind: u64) -> Value
-    requires { (from ≤ end) × (end ≤ length line.now) }
-    ensures { Tells line.now result (value_said kind (field line.now from end)) }
+// A `set` by its other six fields.
+fn read_set<'a>(
+    clock: &[u8],
+    key: &'a [u8],
+    kind: &[u8],
+    value: &'a [u8],
+    lifetime: &[u8],
+    flags: &[u8],
+) -> Option<Call<'a>>
+    ensures call { said result ≡ kind_said clock.now key.now (number_said 255 kind.now) value.now lifetime.now flags.now }
+    ensures fine { Fine result }
 {
-    if kind == 1 {
-        let Some(n) = read_field(line, from, end, 1) else {
-            return Value::Unread;
-        };
-        return Value::Is(n as i64, 0, 0);
-    }
-    if kind == 3 {
-        let Some(n) = decimals::read_weight(&line[from..end]) else {
-            return Value::Unread;
-        };
-        return Value::Is(n, 0, 0);
-    }
-    if kind == 4 {
-        return Value::Is(0, from, end);
-    }
-    Value::Is(0, 0, 0)
-}
-
-// Seven fields, parted by tabs at `a` to `f`, of which the second is `set`: clock, key, kind, value, lifetime, flags.
-fn read_set(line: &[u8], a: usize, b: usize, c: usize, d: usize, e: usize, f: usize) -> Call
-    requires { (a < b) × (b < c) × (c < d) × (d < e) × (e < f) × (f < length line.now) }
-    ensures { Means line.now result (set_fields line.now a b c d e f) }
-{
-    let Some(kind) = read_field(line, c + 1, d, 255) else {
-        return Call::Unreadable;
-    };
-    let Some(clock) = read_field(line, 0, a, u64::MAX) else {
-        return Call::Unreadable;
-    };
-    let Value::Is(number, text, text_end) = read_value(line, d + 1, e, kind) else {
-        return Call::Unreadable;
-    };
-    let Some(lifetime) = read_field(line, e + 1, f, u64::MAX) else {
-        return Call::Unreadable;
-    };
-    let Some(flags) = read_field(line, f + 1, line.len(), 4294967295) else {
-        return Call::Unreadable;
-    };
-    Call::Set {
+    let kind = read_number(kind, 255)?;
+    let clock = read_number(clock, u64::MAX)?;
+    let (number, text) = read_value(value, kind)?;
+    let lifetime = read_number(lifetime, u64::MAX)?;
+    let flags = read_number(flags, u64::from(u32::MAX))?;
+    Some(Call::Set {
         clock,
-        key: b + 1,
-        key_end: c,
+        key,
         kind: kind as u8,
         number,
         text,
-        text_end,
         lifetime,
         flags: flags as u32,
-    }
+    })
 }
 
-// More than three fields, the first three before tabs at `a`, `b` and `c`: it takes `set`, and four fields more.
-fn read_long(line: &[u8], a: usize, b: usize, c: usize) -> Call
-    requires { (a < b) × (b < c) × (c < length line.now) }
-    ensures { Means line.now result (more_fields line.now a b c) }
+// Three fields, and more behind them: it takes `set` for the second, and four more.
+fn read_long<'a>(clock: &[u8], word: &[u8], key: &'a [u8], more: &'a [u8]) -> Option<Call<'a>>
+    ensures call { said result ≡ parts_say (clock.now ∷ word.now ∷ key.now ∷ parts_of more.now) }
+    ensures fine { Fine result }
 {
-    let d = field_end(line, c + 1);
-    if d == line.len() {
-        return Call::Unreadable;
+    let (kind, more) = cut(more)?;
+    let (value, more) = cut(more)?;
+    let (lifetime, flags) = cut(more)?;
+    if cut(flags).is_some() {
+        return None;
     }
-    let e = field_end(line, d + 1);
-    if e == line.len() {
-        return Call::Unreadable;
+    if !words::equal(word, b"set") {
+        return None;
     }
-    let f = field_end(line, e + 1);
-    if f == line.len() {
-        return Call::Unreadable;
-    }
-    let g = field_end(line, f + 1);
-    if g < line.len() {
-        return Call::Unreadable;
-    }
-    let word = a + 1;
-    if !words::equal(&line[word..b], b"set") {
-        return Call::Unreadable;
-    }
-    read_set(line, a, b, c, d, e, f)
+    read_set(clock, key, kind, value, lifetime, flags)
 }
 
-// The call that a line makes; Unreadable if it is not understood.
-pub fn parse(line: &[u8]) -> Call
-    ensures { (said line.now result ≡ call_of line.now) × Inside line.now result }
+// The call that a line makes; None if it is not understood.
+pub fn parse(line: &[u8]) -> Option<Call<'_>>
+    ensures call { said result ≡ call_of line.now }
+    ensures fine { Fine result }
 {
     if 4096 < line.len() {
-        return Call::Unreadable;
+        return None;
     }
-    let a = field_end(line, 0);
-    if a == line.len() {
-        return Call::Unreadable;
-    }
-    let b = field_end(line, a + 1);
-    if b == line.len() {
-        return read_fresh(line, a);
-    }
-    let c = field_end(line, b + 1);
-    if c == line.len() {
-        return read_key(line, a, b);
-    }
-    read_long(line, a, b, c)
+    let (first, more) = cut(line)?;
+    let Some((second, more)) = cut(more) else {
+        return read_fresh(first, more);
+    };
+    let Some((third, more)) = cut(more) else {
+        return read_key(first, second, more);
+    };
+    read_long(first, second, third, more)
 }

@@ -1,18 +1,17 @@
 -- The columns of an output line as they are written one by one, and that they join to the line.
 use Rattle.std.specs.Prelude.{◌≡◌, refl, Bool, true, false, cond, List, [], ◌∷◌, ◌++◌, ℕ, ◌+◌, ◌-◌, ◌≤◌, eqb, length, take, drop, ℤ}
-use Rattle.std.proofs.Common.{sym, ap, ◌∙◌, append_assoc, arith, to_z}
+use Rattle.std.proofs.Common.{sym, ap, ◌∙◌, append_assoc, length-append, arith, to_z}
 use Rattle.std.specs.Int.{w64}
 use borrow.Author.Tests.{eq-eqb, ne_eqb, eqb-false}
 use Rattle.rules.specs.declared.Answer.{Answer}
 use Rattle.rules.specs.Outcome.{Outcome}
-use Rattle.rules.specs.Layout.{put, part}
+use Rattle.rules.specs.Layout.{part}
 use Rattle.rules.specs.Answer.{Fields, fields_of}
 use Rattle.rules.specs.Replay.{decimal, signed, value_shown, line_written}
-use Rattle.words.specs.PutLaws.{length_part}
+use Rattle.decimals.specs.DigitLaws.{decimal_most}
 use Rattle.telling.specs.declared.Told.{Told}
 use Rattle.telling.specs.Told.{told_of, ReadBack}
 use Rattle.printing.specs.Printable.{TextInside}
-use Rattle.printing.specs.Wrote.{Says, wrote_same}
 
 -- ---- what each function writes
 
@@ -23,6 +22,15 @@ ended n end = decimal n ++ (end ∷ [])
 -- three columns, of which the last has an end of its own
 unfoldable pub three_ended : ℕ → ℕ → ℕ → ℕ → List ℕ
 three_ended a b c end = (ended a 9 ++ ended b 9) ++ ended c end
+
+pub ended_most : (n end : ℕ) → length (ended n end) ≤ 21
+unfolding ended
+ended_most n end = omega (arith, length-append (decimal n) (end ∷ []), decimal_most n)
+
+pub three_most : (a b c end : ℕ) → length (three_ended a b c end) ≤ 63
+unfolding three_ended
+three_most a b c end =
+    omega (arith, length-append (ended a 9 ++ ended b 9) (ended c end), length-append (ended a 9) (ended b 9), ended_most a 9, ended_most b 9, ended_most c end)
 
 -- the fields, by what is told of them
 abbrev pub told_fields : Told → Fields
@@ -51,11 +59,11 @@ module _ (f : Fields) (pool : List ℕ) where
   unfolding value_shown
   shown_number g h = simp (ne_eqb f.kind 0 g, ne_eqb f.kind 4 h)
 
-  -- a text that lies in the pool, written as its bytes from the offset up to its end
-  pub shown_text : (d : List ℕ) (at : ℕ) (d₁ : List ℕ) → f.kind ≡ 4 → f.offset + f.size ≤ length pool → d₁ ≡ put d at (take (f.offset + f.size - f.offset) (drop f.offset pool)) → Says d at (value_shown f pool) d₁ (at + f.size)
-  shown_text d at d₁ k h e =
+  -- a text that lies in the pool, from the offset up to its end
+  pub shown_text : f.kind ≡ 4 → take (f.offset + f.size - f.offset) (drop f.offset pool) ≡ value_shown f pool
+  shown_text k =
       let c : f.offset + f.size - f.offset ≡ f.size = omega arith in
-      wrote_same d at (e ∙ ap (λ (n : ℕ). put d at (take n (drop f.offset pool))) c, ap (λ (n : ℕ). at + n) (sym (length_part pool f.offset f.size h))) (text_is k)
+      ap (λ (n : ℕ). take n (drop f.offset pool)) c ∙ text_is k
 
 -- a number matters only beside a kind
 shown_by : (f : Fields) (z : ℤ) (pool : List ℕ) (b : Bool) → eqb f.kind 0 ≡ b → ((f.kind ≡ 0 → ⊥) → z ≡ f.number) → cond (eqb f.kind 0) (45 ∷ []) (cond (eqb f.kind 4) (part pool f.offset f.size) (signed z)) ≡ value_shown f pool

@@ -9,7 +9,7 @@ use Rattle.decimals.specs.DigitLaws.{decimal_most}
 
 -- ---- the value
 
-signed_any : (z : ℤ) → length (signed z) ≤ 21
+pub signed_any : (z : ℤ) → length (signed z) ≤ 21
 unfolding signed
 signed_any (pos n) = omega (arith, decimal_most n)
 signed_any (negsuc n) = omega (arith, decimal_most (suc n))

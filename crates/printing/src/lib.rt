@@ -1,56 +1,82 @@
 // The output lines of replay: the header, and a line for each call.
 #![tactic(auto)]
 
-ghost use Rattle.std.specs.Prelude.{◌≡◌, ◌+◌, ◌≤◌, length};
+ghost use Rattle.std.specs.Prelude.{◌≡◌, ◌+◌, ◌≤◌, ◌<◌, length, [], ◌∷◌};
 ghost use Rattle.rules.specs.Layout.{put};
 ghost use Rattle.rules.specs.Replay.{value_shown, line_written, header};
 ghost use Rattle.printing.specs.Printable.{TextInside};
 ghost use Rattle.printing.specs.Columns.{ToldInside, told_fields, ended, three_ended};
+ghost use Rattle.printing.specs.Wrote.{Writes};
 
 use rules::Answer;
 use telling::Told;
 
-// Writes a number at `at` and a byte that ends its column, and answers where the next begins.
-fn field(out: &mut [u8], at: usize, n: u64, end: u8) -> usize
-    requires { at + 21 ≤ length out.old }
-    ensures out_after { (out.new ≡ put out.old at (ended n end)) × (result ≡ at + length (ended n end)) }
-    ensures upper_bound { result ≤ at + 21 }
-{
-    let to = decimals::write_number(out, at, n);
-    out[to] = end;
-    to + 1
+// An output, and the place in it where the next byte goes.
+#[derive(Drop)]
+struct Output<'a> {
+    bytes: &'a mut [u8],
+    at: usize,
 }
 
-// Writes three columns of numbers, the last ended by `end`. A line has three before its value and three behind it.
-fn three(out: &mut [u8], at: usize, a: u64, b: u64, c: u64, end: u8) -> usize
-    requires { at + 63 ≤ length out.old }
-    ensures out_after { (out.new ≡ put out.old at (three_ended a b c end)) × (result ≡ at + length (three_ended a b c end)) }
-    ensures upper_bound { result ≤ at + 63 }
-{
-    let second = field(out, at, a, 9);
-    let third = field(out, second, b, 9);
-    field(out, third, c, end)
-}
+impl Output<'_> {
+    fn put_byte(&mut self, byte: u8)
+        requires { self.old.at < length self.old.bytes.now }
+        ensures writes { Writes self.old (byte ∷ []) self.new }
+        ensures same { self.new.bytes.ghost_name ≡ self.old.bytes.ghost_name }
+    {
+        self.bytes[self.at] = byte;
+        self.at += 1;
+    }
 
-// Writes the value that is told: a minus for none, a text as its bytes, else a number.
-fn shown(out: &mut [u8], at: usize, t: Told, pool: &[u8]) -> usize
-    requires told_inside { ToldInside t pool.now }
-    requires pool_in_bounds { at + (20 + length pool.now) ≤ length out.old }
-    ensures out_after { (out.new ≡ put out.old at (value_shown (told_fields t) pool.now)) × (result ≡ at + length (value_shown (told_fields t) pool.now)) }
-    ensures upper_bound { result ≤ at + (21 + length pool.now) }
-{
-    if t.kind == 0 {
-        out[at] = 45;
-        return at + 1;
+    fn put_text(&mut self, text: &[u8])
+        requires { self.old.at + length text.now ≤ length self.old.bytes.now }
+        ensures writes { Writes self.old text.now self.new }
+        ensures same { self.new.bytes.ghost_name ≡ self.old.bytes.ghost_name }
+    {
+        words::copy_in(self.bytes, self.at, text);
+        self.at += text.len();
     }
-    if t.kind == 4 {
-        let start = t.offset as usize;
-        let size = t.size as usize;
-        let end = start + size;
-        words::copy_in(out, at, &pool[start..end]);
-        return at + size;
+
+    // A number, and the byte that ends its column.
+    fn put_column(&mut self, n: u64, end: u8)
+        requires { self.old.at + 21 ≤ length self.old.bytes.now }
+        ensures writes { Writes self.old (ended n end) self.new }
+        ensures same { self.new.bytes.ghost_name ≡ self.old.bytes.ghost_name }
+    {
+        self.at = decimals::write_number(self.bytes, self.at, n);
+        self.put_byte(end);
     }
-    decimals::write_signed(out, at, values::from_bits(t.bits))
+
+    // Three columns of numbers, the last ended by `end`. A line has three before its value and three behind it.
+    fn put_columns(&mut self, a: u64, b: u64, c: u64, end: u8)
+        requires { self.old.at + 63 ≤ length self.old.bytes.now }
+        ensures writes { Writes self.old (three_ended a b c end) self.new }
+        ensures same { self.new.bytes.ghost_name ≡ self.old.bytes.ghost_name }
+    {
+        self.put_column(a, b'\t');
+        self.put_column(b, b'\t');
+        self.put_column(c, end);
+    }
+
+    // The value that is told: a minus for none, a text as its bytes, else a number.
+    fn put_value(&mut self, told: Told, pool: &[u8])
+        requires told_inside { ToldInside told pool.now }
+        requires pool_in_bounds { self.old.at + (21 + length pool.now) ≤ length self.old.bytes.now }
+        ensures writes { Writes self.old (value_shown (told_fields told) pool.now) self.new }
+        ensures same { self.new.bytes.ghost_name ≡ self.old.bytes.ghost_name }
+    {
+        match told.kind {
+            0 => self.put_byte(b'-'),
+            4 => {
+                let start = told.offset as usize;
+                let size = told.size as usize;
+                self.put_text(&pool[start..start + size]);
+            }
+            _ => {
+                self.at = decimals::write_signed(self.bytes, self.at, told.bits.cast_signed());
+            }
+        }
+    }
 }
 
 // Writes the output line of the call with the number n at `at`, and answers where it ends.
@@ -59,14 +85,15 @@ pub fn write_line(out: &mut [u8], at: usize, n: u64, answer: Answer, pool: &[u8]
     requires pool_in_bounds { at + (160 + length pool.now) ≤ length out.old }
     ensures { (out.new ≡ put out.old at (line_written n answer pool.now)) × (result ≡ at + length (line_written n answer pool.now)) }
 {
-    let o = answer.outcome;
-    let t = telling::tell(o);
-    let value = three(out, at, n, t.answer, t.kind, 9);
-    let to = shown(out, value, t, pool);
-    out[to] = 9;
+    let told = telling::tell(answer.outcome);
     let rounds = answer.rounds as u64;
     let removed = answer.removed as u64;
-    three(out, to + 1, t.flags, rounds, removed, 10)
+    let mut line = Output { bytes: out, at };
+    line.put_columns(n, told.answer, told.kind, b'\t');
+    line.put_value(told, pool);
+    line.put_byte(b'\t');
+    line.put_columns(told.flags, rounds, removed, b'\n');
+    line.at
 }
 
 // Writes the header at the beginning, and answers where it ends.

@@ -1,5 +1,5 @@
 -- A whole input, at once or in pieces.
-use Rattle.std.specs.Prelude.{◌≡◌, refl, Bool, true, false, eqb, leb}
+use Rattle.std.specs.Prelude.{◌≡◌, refl, Bool, true, false, eqb, leb, Result, Ok, Err}
 use Rattle.std.proofs.Math.Path.{sym, ap}
 use Rattle.std.proofs.Common.{◌∙◌, arith, take-append-drop, drop_of_length-le, drop_at, drop-drop, take_all, take_at, length-take-le, ne_eqb, leb-true, leb-false}
 use Rattle.std.proofs.Math.Bool.{cond}
@@ -13,9 +13,9 @@ use Rattle.rules.specs.Layout.{part, put}
 use Rattle.laws.specs.LayoutLaws.{length_put}
 use Rattle.rules.specs.Replay.{lines_from, lines_of, LineCall, call_of, Replay, line_done, line_written, Written, lines_done, header, replay_of, room, Reached, reached, reached_of}
 use Rattle.scanning.specs.Until.{other}
-use Rattle.lines.specs.LineLaws.{too_long}
-use Rattle.replay.specs.declared.ReplayAnswer.{ReplayAnswer}
-use Rattle.replay.specs.declared.ReplayAnswer.TheVariants as Told
+use Rattle.lines.specs.CallLaws.{too_long}
+use Rattle.replay.specs.declared.Progress.{Progress}
+use Rattle.replay.specs.declared.OutputTooShort.{OutputTooShort}
 use Rattle.replay_calls.specs.Front.{state}
 use Rattle.replay.specs.LineLaws.{lines_plain, lines_cut, lines_open, before, Gives, gives_more, far, reached_full, reached_more}
 use Rattle.replay.specs.Progress.{Done, Lined, written, done_line, take_put, kept_line}
@@ -64,12 +64,24 @@ held_same rest more n s e k = go (leb (length rest) 4097) refl
         ∙ long_same n rest (held rest) more s (omega (arith, leb-false (length rest) 4097 h)) (omega (arith, leb-false (length rest) 4097 h, length-take-le 4097 rest (omega (arith, leb-false (length rest) 4097 h))))
         ∙ sym (ap (λ (x : List (List ℕ)). lines_done n x s) (lines_plain [] (held rest) more k))
 
--- as the code keeps it: all of it, or the front of a line that is over-long
-pub held_all : (rest : List ℕ) → length rest ≤ 4097 → rest ≡ held rest
-held_all rest h = sym (take_all 4097 rest h)
+-- as the code keeps it: the first n bytes, where n is no more than 4,097
+held_by : (rest : List ℕ) (n : ℕ) (c : Bool) → leb (length rest) 4097 ≡ c → n ≡ min (length rest) 4097 → take n rest ≡ held rest
+held_by rest n true h e =
+    let l : length rest ≤ 4097 = leb-true (length rest) 4097 h in
+    take_all n rest (omega (arith, e, min-eq_left l)) ∙ sym (take_all 4097 rest l)
+held_by rest n false h e =
+    let k : n ≡ 4097 = e ∙ min-eq_right (omega (arith, leb-false (length rest) 4097 h)) in
+    ap (λ (m : ℕ). take m rest) k
 
-pub held_length : (rest : List ℕ) → 4097 ≤ length rest → 4097 ≡ length (held rest)
-held_length rest h = sym (length-take-le 4097 rest h)
+pub held_min : (rest : List ℕ) {n : ℕ} → n ≡ min (length rest) 4097 → take n rest ≡ held rest
+held_min rest {n} e = held_by rest n (leb (length rest) 4097) refl e
+
+pub held_count : (rest : List ℕ) {n : ℕ} → n ≡ min (length rest) 4097 → n ≡ length (held rest)
+held_count rest {n} e = sym (length-take-le n rest (omega (arith, e))) ∙ ap length (held_min rest e)
+
+pub put_first : (d s : List ℕ) {n : ℕ} → n ≡ length s → s ++ drop n d ≡ put d 0 s
+unfolding put
+put_first d s {n} e = let z : n ≡ 0 + length s = omega (arith, e) in ap (λ (k : ℕ). s ++ drop k d) z
 
 -- with an end: one line
 pub held_ends : (rest : List ℕ) → every (other 10) rest ≡ true → 0 < length rest → lines_of (rest ++ (10 ∷ [])) ≡ lines_of rest
@@ -208,9 +220,9 @@ pub record Replayed (input dir pool out₀ : List ℕ) (s : Replay) (lines at w 
   pub ends : w + room s.pool ≤ length out → at ≡ length input
 
 -- an output that has no room for the header and a line is refused, and nothing changes
-abbrev pub ReplayGives : List ℕ → List ℕ → List ℕ → List ℕ → ReplayAnswer → List ℕ → List ℕ → List ℕ → Type 0
-ReplayGives input dir pool out₀ (Told.Done p) dir' pool' out = (length header + room pool ≤ length out₀) × Replayed input dir pool out₀ (state p.cells dir' pool') p.lines p.consumed p.written out
-ReplayGives input dir pool out₀ Told.OutputTooShort dir' pool' out = (length out₀ < length header + room pool) × (dir' ≡ dir) × (pool' ≡ pool) × (out ≡ out₀)
+abbrev pub ReplayGives : List ℕ → Replay → List ℕ → Result Progress OutputTooShort → Replay → List ℕ → Type 0
+ReplayGives input s₀ out₀ (Ok p) s out = (length header + room s₀.pool ≤ length out₀) × Replayed input s₀.dir s₀.pool out₀ s p.lines p.consumed p.written out
+ReplayGives input s₀ out₀ (Err e) s out = (length out₀ < length header + room s₀.pool) × (s ≡ s₀) × (out ≡ out₀)
 
 -- done to its end: the output is this, and so is the memory
 pub replayed_whole : {input dir pool out₀ : List ℕ} {s : Replay} {lines at w : ℕ} {out : List ℕ} → Replayed input dir pool out₀ s lines at w out → at ≡ length input → replay_of input dir pool ≡ record { output = take w out; left = s }

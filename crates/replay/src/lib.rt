@@ -4,85 +4,57 @@
 ghost use Rattle.std.specs.Prelude.{◌+◌, ◌≤◌, ◌<◌, ◌^◌, ◌≡◌, length};
 ghost use Rattle.rules.specs.Layout.{put};
 ghost use Rattle.rules.specs.Replay.{room};
-ghost use Rattle.replay_calls.specs.Front.{Ready, state};
+ghost use Rattle.replay_calls.specs.Lent.{left, Same};
 ghost use Rattle.replay.specs.Progress.{Lined, Done};
 ghost use Rattle.replay.specs.Whole.{held, Behind, ReplayGives};
 
-// What one line leaves: how many cells are in use, and where its output ends.
-#[derive(Clone, Copy)]
-struct Step {
-    cells: usize,
-    end: usize,
-}
+use replay_calls::Lent;
 
-// Does one line, and writes its output at `at`, as that of the call with the number n.
-fn do_line(
-    dir: &mut [u64],
-    pool: &mut [u8],
-    cells: usize,
-    n: u64,
-    line: &[u8],
-    out: &mut [u8],
-    at: usize,
-) -> Step
-    requires ready { Ready cells dir.old pool.old }
-    requires pool_in_bounds { at + room pool.old ≤ length out.old }
-    ensures { Lined n line.now (state cells dir.old pool.old) out.old at (state result.cells dir.new pool.new) out.new result.end }
+// Does one line, and writes its output at `at`, as that of the call with the number n. Answers where that ends.
+fn do_line(memory: &mut Lent<'_>, n: u64, line: &[u8], out: &mut [u8], at: usize) -> usize
+    requires { at + room memory.old.pool.now ≤ length out.old }
+    ensures lined { Lined n line.now (left memory.old) out.old at (left memory.new) out.new result }
+    ensures same { Same memory.old memory.new }
 {
-    let call = lines::parse(line);
-    let ran = replay_calls::do_call(dir, pool, cells, line, call);
-    let end = printing::write_line(out, at, n, ran.answer, pool);
-    Step {
-        cells: ran.cells,
-        end,
-    }
+    let answer = memory.do_call(lines::parse(line));
+    printing::write_line(out, at, n, answer, memory.bytes())
 }
 
-// How far a run came: the cells in use, the number of lines done in all, the bytes of the input that are done, and the bytes of the output.
-#[derive(Clone, Copy)]
+// How far lines are done: the number of the last one, the bytes of the input that they took, and the bytes of the output that are written.
+#[derive(Clone, Copy, Debug, PartialEq, Eq)]
 pub struct Progress {
-    pub cells: usize,
     pub lines: u64,
     pub consumed: usize,
     pub written: usize,
 }
 
-// Does the lines of the input that have an end, one after the other, as long as the output has room, and says how far it came.
-pub fn run(
-    dir: &mut [u64],
-    pool: &mut [u8],
-    cells: usize,
-    lines: u64,
-    input: &[u8],
-    out: &mut [u8],
-) -> Progress
-    requires ready { Ready cells dir.old pool.old }
+// Does the lines of the input that have an end, one after the other, as long as the output has room, and says how far it came. `lines` are done before them.
+pub fn run(memory: &mut Lent<'_>, lines: u64, input: &[u8], out: &mut [u8]) -> Progress
     requires input_bound { lines + length input.now < 2 ^ 64 }
-    requires pool_in_bounds { room pool.old ≤ length out.old }
-    ensures { Done (state cells dir.old pool.old) lines input.now out.old (state result.cells dir.new pool.new) result.lines result.consumed result.written out.new }
+    requires pool_in_bounds { room memory.old.pool.now ≤ length out.old }
+    ensures done { Done (left memory.old) lines input.now out.old (left memory.new) result.lines result.consumed result.written out.new }
+    ensures same { Same memory.old memory.new }
 {
-    let most = 160 + pool.len();
-    let mut used = cells;
-    let mut n = lines;
-    let mut at = 0;
-    let mut w = 0;
-    while most <= out.len() - w {
-        let end = scanning::find(input, at, 10);
+    let most = 160 + memory.pool.len();
+    let mut done = Progress {
+        lines,
+        consumed: 0,
+        written: 0,
+    };
+    while most <= out.len() - done.written {
+        let end = scanning::find(input, done.consumed, b'\n');
         if end == input.len() {
             break;
         }
-        n += 1;
-        let step = do_line(dir, pool, used, n, &input[at..end], out, w);
-        used = step.cells;
-        w = step.end;
-        at = end + 1;
+        let n = done.lines + 1;
+        let written = do_line(memory, n, &input[done.consumed..end], out, done.written);
+        done = Progress {
+            lines: n,
+            consumed: end + 1,
+            written,
+        };
     }
-    Progress {
-        cells: used,
-        lines: n, // in all
-        consumed: at,
-        written: w,
-    }
+    done // at the end of a line
 }
 
 // Keeps the bytes of a line that has not ended, but no more than tell that it is over-long, and answers how many.
@@ -90,60 +62,57 @@ pub fn hold(kept: &mut [u8], rest: &[u8]) -> usize
     requires { 4097 ≤ length kept.old }
     ensures { (result ≤ 4097) × (result ≡ length (held rest.now)) × (kept.new ≡ put kept.old 0 (held rest.now)) }
 {
-    if rest.len() <= 4097 {
-        words::copy_in(kept, 0, rest);
-        return rest.len();
-    }
-    words::copy_in(kept, 0, &rest[..4097]);
-    4097
+    let count = rest.len().min(4097);
+    kept[..count].copy_from_slice(&rest[..count]);
+    count
 }
 
 // Does all lines of an input, also a last one that has no end, as long as the output has room.
-fn run_all(dir: &mut [u64], pool: &mut [u8], input: &[u8], out: &mut [u8]) -> Progress
-    requires { room pool.old ≤ length out.old }
-    ensures { Behind input.now out.old (state 0 dir.old pool.old) (state result.cells dir.new pool.new) result.lines result.consumed result.written out.new }
+fn run_all(memory: &mut Lent<'_>, input: &[u8], out: &mut [u8]) -> Progress
+    requires { room memory.old.pool.now ≤ length out.old }
+    ensures behind { Behind input.now out.old (left memory.old) (left memory.new) result.lines result.consumed result.written out.new }
+    ensures same { Same memory.old memory.new }
 {
-    let p = run(dir, pool, 0, 0, input, out);
-    let done = p.consumed;
-    if done == input.len() {
-        return p;
+    let done = run(memory, 0, input, out);
+    if done.consumed == input.len() {
+        return done;
     }
-    if out.len() - p.written < 160 + pool.len() {
-        return p;
+    if out.len() - done.written < 160 + memory.pool.len() {
+        return done;
     }
-    let n = p.lines + 1;
-    let last = do_line(dir, pool, p.cells, n, &input[done..], out, p.written);
+    let last = done.lines + 1;
+    let written = do_line(memory, last, &input[done.consumed..], out, done.written);
     Progress {
-        cells: last.cells,
-        lines: n, // with the last one
+        lines: last,
         consumed: input.len(),
-        written: last.end,
+        written,
     }
 }
 
-// What replay answers: how far it came, or that the output has no room for the header and a line.
-#[derive(Clone, Copy)]
-pub enum ReplayAnswer {
-    Done(Progress),
-    OutputTooShort,
-}
+// An output that has no room for the header and one line.
+#[derive(Clone, Copy, Debug, PartialEq, Eq)]
+pub struct OutputTooShort;
 
-// Replays a whole input from a memory that no `fresh` has touched: the header, and a line of output for each line, to the end of the input where the output has room. An output that is too short for the header and one line is refused, and nothing changes.
-pub fn replay(dir: &mut [u64], pool: &mut [u8], input: &[u8], out: &mut [u8]) -> ReplayAnswer
-    ensures { ReplayGives input.now dir.old pool.old out.old result dir.new pool.new out.new }
+// Replays a whole input, in the lent memory as if no `fresh` had touched it: the header, and a line of output for each line, to the end of the input where the output has room. Where the output is too short, nothing changes.
+pub fn replay(
+    memory: &mut Lent<'_>,
+    input: &[u8],
+    out: &mut [u8],
+) -> Result<Progress, OutputTooShort>
+    ensures gives { ReplayGives input.now (left memory.old) out.old result (left memory.new) out.new }
+    ensures same { Same memory.old memory.new }
 {
     if out.len() < 204 {
-        return ReplayAnswer::OutputTooShort; // 44 bytes of header, 160 of a line
+        return Err(OutputTooShort); // 44 bytes of header, 160 of a line
     }
-    if out.len() - 204 < pool.len() {
-        return ReplayAnswer::OutputTooShort; // a text may be as long as the pool
+    if out.len() - 204 < memory.pool.len() {
+        return Err(OutputTooShort); // a text may be as long as the pool
     }
+    memory.cells = 0;
     let begun = printing::write_header(out);
-    let p = run_all(dir, pool, input, &mut out[begun..]);
-    ReplayAnswer::Done(Progress {
-        cells: p.cells,
-        lines: p.lines,
-        consumed: p.consumed,
-        written: begun + p.written,
+    let done = run_all(memory, input, &mut out[begun..]);
+    Ok(Progress {
+        written: begun + done.written,
+        ..done
     })
 }

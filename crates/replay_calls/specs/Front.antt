@@ -1,7 +1,10 @@
 -- The memory that replay owns: no `fresh` yet, or a sound memory at the front of what is lent.
-use Rattle.std.specs.Prelude.{◌≡◌, Bool, true, false, ◌&&◌, ◌⊎◌, List, [], ◌++◌, ℕ, ◌+◌, ◌*◌, ◌≤◌, ◌<◌, length, take, replicate, ℤ, leb, Err, Ok}
-use Rattle.std.proofs.Common.{sym, ap, ◌∙◌, subst, inl, inr, arith, take-append-drop, length-append, length-take-le, take_at, to_z, of_z, SFits, to_z-of_z}
+use Rattle.std.specs.Prelude as R
+use Rattle.std.specs.Prelude.{◌≡◌, refl, Bool, true, false, eqb, is_ok, ◌&&◌, ◌⊎◌, List, [], ◌++◌, ℕ, ◌+◌, ◌*◌, ◌≤◌, ◌<◌, length, take, replicate, ℤ, leb, Err, Ok}
+use Rattle.std.proofs.Common.{sym, ap, ◌∙◌, subst, inl, inr, arith, eqb-true, take-append-drop, length-append, length-take-le, take_at, to_z, of_z, SFits, to_z-of_z}
 use Rattle.std.proofs.Math.Bool.{and-false}
+use Rattle.std.proofs.Math.Nat.{ℕ_set}
+use Rattle.std.proofs.Props.{props}
 use Rattle.std.proofs.Math.ListN.{drop}
 use Rattle.std.proofs.lemmas.List.{length-replicate}
 use Rattle.std.specs.Int.{w64}
@@ -27,6 +30,15 @@ use Rattle.rules.specs.declared.Refusal.{Refusal}
 abbrev pub state : ℕ → List ℕ → List ℕ → Replay
 state cells dir pool = record { cells = cells; dir = dir; pool = pool }
 
+-- the answer that a call comes to: a refusal's tells nothing but its number
+abbrev pub come_to : R.Result Answer Refusal → Answer
+come_to (Ok a) = a
+come_to (Err o) = plain (Err o) 0
+
+-- "Before the first `fresh` every call answers 1"
+abbrev pub in_use_check : ℕ → Check
+in_use_check cells = refuse NotSound (eqb cells 0)
+
 -- a line that gave this answer and left this memory
 abbrev pub done_as : Answer → ℕ → List ℕ → List ℕ → LineDone
 done_as a cells dir pool = record { answer = a; after = state cells dir pool }
@@ -40,6 +52,16 @@ pub record Front (P : ℕ) (dir pool : List ℕ) : Type 0 where
 pub data Ready (P : ℕ) (dir pool : List ℕ) : Type 0 where
   untouched : P ≡ 0 → Ready P dir pool
   in_use : Front P dir pool → Ready P dir pool
+
+-- that a memory is ready has no two proofs, so that a struct may hold it
+front_sole : (P : ℕ) (dir pool : List ℕ) → IsProp (Front P dir pool)
+front_sole P dir pool = Prim.hlevel props
+
+pub ready_sole : (P : ℕ) (dir pool : List ℕ) → IsProp (Ready P dir pool)
+ready_sole P dir pool (untouched z) (untouched w) = ap untouched (ℕ_set P 0 z w)
+ready_sole P dir pool (untouched z) (in_use f) = absurd (omega (arith, z, f.some))
+ready_sole P dir pool (in_use f) (untouched z) = absurd (omega (arith, z, f.some))
+ready_sole P dir pool (in_use f) (in_use g) = ap in_use (front_sole P dir pool f g)
 
 pub ready_front : {P : ℕ} {dir pool : List ℕ} → Ready P dir pool → (P ≡ 0 → ⊥) → Front P dir pool
 ready_front (untouched z) n = absurd (n z)
@@ -63,6 +85,22 @@ front_of {P} {d} {p} words bytes h =
 pub called_early : (work : List ℕ → List ℕ → Result) (P : ℕ) (dir pool : List ℕ) {a : Answer} → P ≡ 0 → a ≡ plain (Err NotSound) 0 → done_as a P dir pool ≡ called work (state P dir pool)
 unfolding called
 called_early work P dir pool {a} z e = rw (eq-eqb P 0 z) (ap (λ (x : Answer). done_as x P dir pool) e)
+
+-- what the check for it tells
+early_by : (b : Bool) (work : List ℕ → List ℕ → Result) (P : ℕ) (dir pool : List ℕ) {o : Refusal} → eqb P 0 ≡ b → Err o ≡ refuse NotSound b → done_as (plain (Err o) 0) P dir pool ≡ called work (state P dir pool)
+unfolding refuse
+early_by true work P dir pool {o} q i = let same : o ≡ NotSound = cc in called_early work P dir pool (eqb-true P 0 q) (ap (λ (x : Refusal). plain (Err x) 0) same)
+early_by false work P dir pool q i = absurd (let t : false ≡ true = ap is_ok i in let z : ◌≡◌ {A = ℕ} 0 1 = cc in omega arith)
+
+pub refused_early : (work : List ℕ → List ℕ → Result) (P : ℕ) (dir pool : List ℕ) {o : Refusal} → Err o ≡ in_use_check P → done_as (plain (Err o) 0) P dir pool ≡ called work (state P dir pool)
+refused_early work P dir pool e = early_by (eqb P 0) work P dir pool refl e
+
+used : {P : ℕ} {u : Unit} → Ok u ≡ in_use_check P → P ≡ 0 → ⊥
+unfolding refuse
+used {P} e z = let t : true ≡ false = ap is_ok (e ∙ ap (refuse NotSound) (eq-eqb P 0 z)) in absurd (let i : ◌≡◌ {A = ℕ} 0 1 = cc in omega arith)
+
+pub ready_used : {P : ℕ} {dir pool : List ℕ} {u : Unit} → Ready P dir pool → Ok u ≡ in_use_check P → Front P dir pool
+ready_used r e = ready_front r (used e)
 
 module _ {P : ℕ} {dir pool : List ℕ} (f : Front P dir pool) where
   abbrev fd : List ℕ

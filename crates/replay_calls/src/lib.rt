@@ -2,173 +2,157 @@
 #![tactic(auto)]
 
 ghost use Rattle.std.specs.Prelude.{◌≡◌, ◌≤◌};
-ghost use Rattle.rules.specs.Calls.{get_call, delete_call, store_call};
-ghost use Rattle.rules.specs.Replay.{called, freshened};
-ghost use Rattle.rules.specs.declared.Operation.TheVariants.{Set};
-ghost use Rattle.lines.specs.Saying.{said, Inside};
-ghost use Rattle.replay_calls.specs.Front.{Ready, done_as, state};
+ghost use Rattle.rules.specs.Replay.{freshes, sets, gets, deletes};
+ghost use Rattle.lines.specs.Saying.{said, Fine};
+ghost use Rattle.replay_calls.specs.Front.{Ready, ready_sole, come_to, in_use_check};
 ghost use Rattle.replay_calls.specs.Ready.{Runs};
 
 use lines::Call;
 use rules::{Answer, Operation, Refusal};
 
-// ---- a call on the front of the lent memory, which is known to be sound: its soundness is not tested again
-
-// get.
-fn do_get(dir: &mut [u64], pool: &mut [u8], cells: usize, clock: u64, key: &[u8]) -> Answer
-    requires { Ready cells dir.old pool.old }
-    ensures { done_as result cells dir.new pool.new ≡ called (λ d p. get_call d p clock key.now) (state cells dir.old pool.old) }
-{
-    if cells == 0 {
-        return Answer::plain(Err(Refusal::NotSound), 0); // no `fresh` yet: there is nothing to look in
-    }
-    let check = checks::key_arguments(clock, key);
-    if let Err(refusal) = check {
-        return Answer::plain(Err(refusal), 0);
-    }
-    reading::get_in(
-        &mut dir[..2 + 6 * cells],
-        &mut pool[..32 * cells],
-        clock,
-        key,
-    )
-}
-
-// delete.
-fn do_delete(dir: &mut [u64], pool: &mut [u8], cells: usize, clock: u64, key: &[u8]) -> Answer
-    requires { Ready cells dir.old pool.old }
-    ensures { done_as result cells dir.new pool.new ≡ called (λ d p. delete_call d p clock key.now) (state cells dir.old pool.old) }
-{
-    if cells == 0 {
-        return Answer::plain(Err(Refusal::NotSound), 0);
-    }
-    let check = checks::key_arguments(clock, key); // a delete checks its clock too
-    if let Err(refusal) = check {
-        return Answer::plain(Err(refusal), 0);
-    }
-    upkeep::delete_in(
-        &mut dir[..2 + 6 * cells],
-        &mut pool[..32 * cells],
-        clock,
-        key,
-    )
-}
-
-// set.
-fn do_set(
-    dir: &mut [u64],
-    pool: &mut [u8],
-    cells: usize,
-    clock: u64,
-    key: &[u8],
-    kind: u8,
-    number: i64,
-    text: &[u8],
-    lifetime: u64,
-    flags: u32,
-) -> Answer
-    requires { Ready cells dir.old pool.old }
-    ensures { done_as result cells dir.new pool.new ≡ called (λ d p. store_call Set d p clock key.now kind number text.now lifetime flags) (state cells dir.old pool.old) }
-{
-    if cells == 0 {
-        return Answer::plain(Err(Refusal::NotSound), 0);
-    }
-    let check = checks::store_arguments(Operation::Set, clock, key, kind, lifetime);
-    if let Err(refusal) = check {
-        return Answer::plain(Err(refusal), 0);
-    }
-    storing::store_in(
-        Operation::Set,
-        &mut dir[..2 + 6 * cells],
-        &mut pool[..32 * cells],
-        clock,
-        key,
-        kind,
-        number,
-        text,
-        lifetime,
-        flags,
-    )
-}
-
-// What a line leaves: how many cells are in use, and its answer.
-#[derive(Clone, Copy)]
-pub struct Ran {
+// The lent memory: its words, its bytes, and how many cells at its front are in use, those of the last `fresh` done.
+#[derive(Drop)]
+pub struct Lent<'a> {
+    pub dir: &'a mut [u64],
+    pub pool: &'a mut [u8],
     pub cells: usize,
-    pub answer: Answer,
+    pub ghost ready: { Ready cells dir.now pool.now } by { ready_sole cells dir.now pool.now },
 }
 
-// fresh: an empty memory of `count` cells at the front, where that much is lent.
-fn do_fresh(dir: &mut [u64], pool: &mut [u8], cells: usize, count: usize) -> Ran
-    requires le_count { 1 ≤ count }
-    requires count_bound { count ≤ 1024 }
-    ensures { done_as result.answer result.cells dir.new pool.new ≡ freshened count (state cells dir.old pool.old) }
-{
-    let words = 2 + 6 * count;
-    let bytes = 32 * count;
-    if dir.len() < words {
-        return Ran {
-            cells,
-            answer: Answer::plain(Err(Refusal::NotSound), 0), // too few words are lent
-        };
-    }
-    if pool.len() < bytes {
-        return Ran {
-            cells,
-            answer: Answer::plain(Err(Refusal::NotSound), 0),
-        };
-    }
-    let answer = memory::make_fresh(&mut dir[..words], &mut pool[..bytes]);
-    Ran {
-        cells: count,
-        answer,
-    }
-}
+impl Lent<'_> {
+    ghost use Rattle.replay_calls.specs.Lent.{left, Same};
 
-// What the line does that makes this call.
-pub fn do_call(dir: &mut [u64], pool: &mut [u8], cells: usize, line: &[u8], call: Call) -> Ran
-    requires ready { Ready cells dir.old pool.old }
-    requires inside { Inside line.now call }
-    ensures { Runs (said line.now call) (state cells dir.old pool.old) result.answer (state result.cells dir.new pool.new) }
-{
-    match call {
-        Call::Fresh { cells: count } => do_fresh(dir, pool, cells, count),
-        Call::Set {
+    // The pool's bytes, to be read.
+    pub fn bytes(&self) -> &[u8]
+        ensures { result.now ≡ self.now.pool.now }
+    {
+        &self.pool[..]
+    }
+
+    // Refuses where there is nothing to look in.
+    fn check_in_use(&self) -> Result<(), Refusal>
+        ensures { result ≡ in_use_check self.now.cells }
+    {
+        if self.cells == 0 {
+            return Err(Refusal::NotSound); // no `fresh` yet
+        }
+        Ok(())
+    }
+
+    // get. The front is known to be sound: its soundness is not tested again.
+    fn get(&mut self, clock: u64, key: &[u8]) -> Result<Answer, Refusal>
+        ensures runs { Runs (gets clock key.now) (left self.old) (come_to result) (left self.new) }
+        ensures same { Same self.old self.new }
+    {
+        self.check_in_use()?;
+        checks::key_arguments(clock, key)?;
+        Ok(reading::get_in(
+            &mut self.dir[..2 + 6 * self.cells],
+            &mut self.pool[..32 * self.cells],
             clock,
             key,
-            key_end,
+        ))
+    }
+
+    // delete.
+    fn delete(&mut self, clock: u64, key: &[u8]) -> Result<Answer, Refusal>
+        ensures runs { Runs (deletes clock key.now) (left self.old) (come_to result) (left self.new) }
+        ensures same { Same self.old self.new }
+    {
+        self.check_in_use()?;
+        checks::key_arguments(clock, key)?; // a delete checks its clock too
+        Ok(upkeep::delete_in(
+            &mut self.dir[..2 + 6 * self.cells],
+            &mut self.pool[..32 * self.cells],
+            clock,
+            key,
+        ))
+    }
+
+    // set.
+    fn set(
+        &mut self,
+        clock: u64,
+        key: &[u8],
+        kind: u8,
+        number: i64,
+        text: &[u8],
+        lifetime: u64,
+        flags: u32,
+    ) -> Result<Answer, Refusal>
+        ensures runs { Runs (sets clock key.now kind number text.now lifetime flags) (left self.old) (come_to result) (left self.new) }
+        ensures same { Same self.old self.new }
+    {
+        self.check_in_use()?;
+        checks::store_arguments(Operation::Set, clock, key, kind, lifetime)?;
+        Ok(storing::store_in(
+            Operation::Set,
+            &mut self.dir[..2 + 6 * self.cells],
+            &mut self.pool[..32 * self.cells],
+            clock,
+            key,
             kind,
             number,
             text,
-            text_end,
             lifetime,
             flags,
-        } => {
-            let answer = do_set(
-                dir,
-                pool,
-                cells,
+        ))
+    }
+
+    // fresh: an empty memory of `count` cells at the front, where that much is lent.
+    fn fresh(&mut self, count: usize) -> Result<Answer, Refusal>
+        requires some { 1 ≤ count }
+        requires few { count ≤ 1024 }
+        ensures runs { Runs (freshes count) (left self.old) (come_to result) (left self.new) }
+        ensures same { Same self.old self.new }
+    {
+        let words = 2 + 6 * count;
+        let bytes = 32 * count;
+        if self.dir.len() < words {
+            return Err(Refusal::NotSound); // too few words are lent
+        }
+        if self.pool.len() < bytes {
+            return Err(Refusal::NotSound);
+        }
+        let answer = memory::make_fresh(&mut self.dir[..words], &mut self.pool[..bytes]);
+        self.cells = count;
+        Ok(answer)
+    }
+
+    // The call that a line makes, or why it is refused.
+    fn try_call(&mut self, call: Option<Call<'_>>) -> Result<Answer, Refusal>
+        requires { Fine call }
+        ensures runs { Runs (said call.entry) (left self.old) (come_to result) (left self.new) }
+        ensures same { Same self.old self.new }
+    {
+        let Some(call) = call else {
+            return Err(Refusal::LineUnreadable);
+        };
+        match call {
+            Call::Fresh { cells } => self.fresh(cells),
+            Call::Set {
                 clock,
-                &line[key..key_end],
+                key,
                 kind,
                 number,
-                &line[text..text_end],
+                text,
                 lifetime,
                 flags,
-            );
-            Ran { cells, answer }
+            } => self.set(clock, key, kind, number, text, lifetime, flags),
+            Call::Get { clock, key } => self.get(clock, key),
+            Call::Delete { clock, key } => self.delete(clock, key),
         }
-        Call::Get { clock, key } => Ran {
-            cells,
-            answer: do_get(dir, pool, cells, clock, &line[key..]),
-        },
-        Call::Delete { clock, key } => Ran {
-            cells,
-            answer: do_delete(dir, pool, cells, clock, &line[key..]),
-        },
-        Call::Unreadable => Ran {
-            cells,
-            answer: Answer::plain(Err(Refusal::LineUnreadable), 0),
-        },
+    }
+
+    // What the line does that makes this call.
+    pub fn do_call(&mut self, call: Option<Call<'_>>) -> Answer
+        requires { Fine call }
+        ensures runs { Runs (said call.entry) (left self.old) result (left self.new) }
+        ensures same { Same self.old self.new }
+    {
+        match self.try_call(call) {
+            Ok(answer) => answer,
+            Err(refusal) => Answer::plain(Err(refusal), 0),
+        }
     }
 }

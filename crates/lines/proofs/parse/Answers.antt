@@ -1,20 +1,20 @@
 -- `lines::parse` meets its contract.
-use Rattle.lines.specs.CallLaws.{none}
-use Rattle.lines.specs.LineLaws.{too_long, one, two, three, longer}
-use native.Mathlib.Omega.{arith}
+use Rattle.std.proofs.Common.{ap, sym, ◌∙◌, arith}
+use Rattle.lines.specs.Saying.{said}
+use Rattle.lines.specs.CallLaws.{too_long, one, two, three, longer}
 use Rattle.lines.proofs.parse.Goals as goal
 
-pub returns-then-line-gt4096 : goal.returns-then-line-gt4096
-returns-then-line-gt4096 c = let m = none (too_long c.args.line.now (omega arith)) in (m.is, m.within)
+pub returns-then-line-gt4096-clause-call : goal.returns-then-line-gt4096-clause-call
+returns-then-line-gt4096-clause-call c = sym (too_long _ (omega (arith, c.if-line-gt4096.true)))
 
-pub returns-then-a-line : goal.returns-then-a-line
-returns-then-a-line c = let m = none (one (omega arith) c.field_end-a.ensures (omega arith)) in (m.is, m.within)
+pub returns-in_err-first-clause-call : goal.returns-in_err-first-clause-call
+returns-in_err-first-clause-call c = ap said c.from_residual.ensures ∙ one _ (omega arith) c.in_err-first.ensures
 
-pub returns-then-b-line : goal.returns-then-b-line
-returns-then-b-line c = let m = two (omega arith) c.field_end-a.ensures (omega arith) c.field_end-b.ensures (omega arith) c.read_fresh.ensures in (m.is, m.within)
+pub returns-in_default-clause-call : goal.returns-in_default-clause-call
+returns-in_default-clause-call c = two _ (omega arith) _ _ c.in_ok-first.ensures c.in_default.ensures c.read_fresh.ensures.call
 
-pub returns-then-c-line : goal.returns-then-c-line
-returns-then-c-line c = let m = three (omega arith) c.field_end-a.ensures (omega arith) c.field_end-b.ensures (omega arith) c.field_end-c.ensures (omega arith) c.read_key.ensures in (m.is, m.within)
+pub returns-in_default-cut-clause-call : goal.returns-in_default-cut-clause-call
+returns-in_default-cut-clause-call c = three _ (omega arith) _ _ c.in_ok-first.ensures _ _ c.in-Some.ensures c.in_default-cut.ensures c.read_key.ensures.call
 
-pub returns : goal.returns
-returns c = let m = longer (omega arith) c.field_end-a.ensures (omega arith) c.field_end-b.ensures (omega arith) c.field_end-c.ensures (omega arith) c.read_long.ensures in (m.is, m.within)
+pub returns-clause-call : goal.returns-clause-call
+returns-clause-call c = longer _ (omega arith) _ _ c.in_ok-first.ensures _ _ c.in-Some.ensures _ _ c.in-Some-cut.ensures c.read_long.ensures.call

@@ -1,18 +1,24 @@
 -- `lines::read_fresh` meets its contract.
-use Rattle.std.proofs.Common.{ap, not}
-use Rattle.decimals.specs.WeightLaws.{number_told}
-use Rattle.lines.specs.CallLaws.{none, said_is, fresh_other, fresh_none, fresh_zero, fresh_is}
-use native.Mathlib.Omega.{arith}
+use Rattle.std.proofs.Common.{ap, sym, ◌∙◌, arith, ℕ}
+use Rattle.std.specs.Prelude.{Some}
+use Rattle.rules.specs.Replay.{fresh_said}
+use Rattle.lines.specs.Saying.{said}
+use Rattle.lines.specs.CallLaws.{most_said, fresh_says, fresh_other, fresh_is}
 use Rattle.lines.proofs.read_fresh.Goals as goal
 
-pub returns-then-not-equal : goal.returns-then-not-equal
-returns-then-not-equal c = none (fresh_other _ _ c.equal.ensures (ap not c.if-not-equal.true))
+pub returns-then-not-equal-clause-call : goal.returns-then-not-equal-clause-call
+returns-then-not-equal-clause-call c = fresh_other _ _ c.if-not-equal.ensures
 
-pub returns-in_default : goal.returns-in_default
-returns-in_default c = none (fresh_none _ _ c.equal.ensures (ap not c.if-not-equal.false) (said_is c.read_field.ensures c.in_default.is))
+pub returns-in_err-cells-clause-call : goal.returns-in_err-cells-clause-call
+unfolding fresh_said
+returns-in_err-cells-clause-call c = ap said c.from_residual.ensures ∙ fresh_says _ _ c.if-not-equal.ensures c.in_err-cells.ensures
 
-pub returns-then-p-eq0 : goal.returns-then-p-eq0
-returns-then-p-eq0 c = none (fresh_zero _ _ c.equal.ensures (ap not c.if-not-equal.false) (said_is c.read_field.ensures c.in-Some.is) c.if-p-eq0.true)
+pub returns-then-cells-eq0-clause-call : goal.returns-then-cells-eq0-clause-call
+unfolding fresh_said
+returns-then-cells-eq0-clause-call c = ap (λ (n : ℕ). fresh_said (Some n)) (sym c.if-cells-eq0.true) ∙ fresh_says _ _ c.if-not-equal.ensures c.in_ok-cells.ensures
 
-pub returns : goal.returns
-returns c = fresh_is _ _ c.equal.ensures (ap not c.if-not-equal.false) (said_is c.read_field.ensures c.in-Some.is) (omega arith) (number_told (said_is c.read_field.ensures c.in-Some.is)).low
+pub returns-clause-call : goal.returns-clause-call
+returns-clause-call c = fresh_is c.if-cells-eq0.false ∙ fresh_says _ _ c.if-not-equal.ensures c.in_ok-cells.ensures
+
+pub returns-clause-fine : goal.returns-clause-fine
+returns-clause-fine c = (omega arith, most_said _ c.in_ok-cells.ensures)

@@ -1,16 +1,19 @@
 -- `lines::read_key` meets its contract.
-use Rattle.lines.specs.CallLaws.{none, said_is, clock_none, get_is, delete_is, word_other}
-use native.Mathlib.Omega.{arith}
+use Rattle.std.proofs.Common.{ap, ◌∙◌}
+use Rattle.rules.specs.Replay.{key_said}
+use Rattle.lines.specs.Saying.{said}
+use Rattle.lines.specs.CallLaws.{key_says, get_is, delete_is, word_other}
 use Rattle.lines.proofs.read_key.Goals as goal
 
-pub returns-in_default : goal.returns-in_default
-returns-in_default c = none (clock_none _ _ _ (said_is c.read_field.ensures c.in_default.is))
+pub returns-in_err-clock-clause-call : goal.returns-in_err-clock-clause-call
+unfolding key_said
+returns-in_err-clock-clause-call c = ap said c.from_residual.ensures ∙ key_says _ _ _ c.in_err-clock.ensures
 
-pub returns-then-equal : goal.returns-then-equal
-returns-then-equal c = get_is _ _ (said_is c.read_field.ensures c.in-Some.is) c.equal.ensures c.if-equal.true (omega arith)
+pub returns-then-equal-clause-call : goal.returns-then-equal-clause-call
+returns-then-equal-clause-call c = get_is _ _ _ c.if-equal.ensures ∙ key_says _ _ _ c.in_ok-clock.ensures
 
-pub returns-then-equal-2 : goal.returns-then-equal-2
-returns-then-equal-2 c = delete_is _ _ (said_is c.read_field.ensures c.in-Some.is) c.equal.ensures c.if-equal.false c.equal-2.ensures c.if-equal-2.true (omega arith)
+pub returns-then-equal-2-clause-call : goal.returns-then-equal-2-clause-call
+returns-then-equal-2-clause-call c = delete_is _ _ _ c.if-equal.ensures c.if-equal-2.ensures ∙ key_says _ _ _ c.in_ok-clock.ensures
 
-pub returns : goal.returns
-returns c = none (word_other _ _ (said_is c.read_field.ensures c.in-Some.is) c.equal.ensures c.if-equal.false c.equal-2.ensures _ c.if-equal-2.false)
+pub returns-clause-call : goal.returns-clause-call
+returns-clause-call c = word_other _ _ _ c.if-equal.ensures c.if-equal-2.ensures ∙ key_says _ _ _ c.in_ok-clock.ensures

@@ -1,34 +1,40 @@
 -- `lines::read_set` meets its contract.
+use Rattle.std.proofs.Common.{ap, ◌∙◌, arith, rules, ℕ, ℤ, refl}
+use Rattle.std.specs.Prelude.{Option}
+use Rattle.rules.specs.Replay.{sets, number_said, set_said, kind_said}
 use Rattle.values.specs.Bits.{held_is}
-use Rattle.decimals.specs.WeightLaws.{number_told}
-use Rattle.lines.specs.CallLaws.{none, said_is}
-use Rattle.lines.specs.ValueLaws.{told_none, told_is, told_within}
-use Rattle.lines.specs.SetLaws.{kind_none, time_none, value_none, lifetime_none, flags_none, set_is}
-use mathlib.Core.Path.{refl}
-use native.Mathlib.Omega.{arith}
-use borrow.Author.Rules.{rules}
+use Rattle.lines.specs.Saying.{said}
+use Rattle.lines.specs.CallLaws.{most_said, set_says}
 use Rattle.lines.proofs.read_set.Goals as goal
 
-pub returns-in_default : goal.returns-in_default
-returns-in_default c = none (kind_none _ _ _ _ _ _ (said_is c.read_field.ensures c.in_default.is))
+pub returns-in_err-kind-clause-call : goal.returns-in_err-kind-clause-call
+unfolding kind_said
+returns-in_err-kind-clause-call c = ap said c.from_residual.ensures ∙ ap (λ (k : Option ℕ). kind_said c.args.clock.now c.args.key.now k c.args.value.now c.args.lifetime.now c.args.flags.now) c.in_err-kind.ensures
 
-pub returns-in_default-read_field : goal.returns-in_default-read_field
-returns-in_default-read_field c = none (time_none _ _ _ _ _ _ (said_is c.read_field.ensures c.in-Some.is) (said_is c.read_field-2.ensures c.in_default-read_field.is))
+pub returns-in_err-clock-clause-call : goal.returns-in_err-clock-clause-call
+unfolding set_said
+returns-in_err-clock-clause-call c = ap said c.from_residual-in_err-clock.ensures ∙ set_says _ _ _ _ _ _ c.in_ok-kind.ensures c.in_err-clock.ensures refl refl refl
 
-pub returns-in_default-read_value : goal.returns-in_default-read_value
-returns-in_default-read_value c = none (value_none _ _ _ _ _ _ (said_is c.read_field.ensures c.in-Some.is) (said_is c.read_field-2.ensures c.in-Some-read_field.is) (told_none c.read_value.ensures c.in_default-read_value.is))
+pub returns-in_err-number-clause-call : goal.returns-in_err-number-clause-call
+unfolding set_said
+returns-in_err-number-clause-call c = ap said c.from_residual-in_err-number.ensures ∙ set_says _ _ _ _ _ _ c.in_ok-kind.ensures c.in_ok-clock.ensures c.in_err-number.ensures refl refl
 
-pub returns-in_default-read_field-2 : goal.returns-in_default-read_field-2
-returns-in_default-read_field-2 c = none (lifetime_none _ _ _ _ _ _ (said_is c.read_field.ensures c.in-Some.is) (said_is c.read_field-2.ensures c.in-Some-read_field.is) (told_is c.read_value.ensures c.in-Is.is) (said_is c.read_field-3.ensures c.in_default-read_field-2.is))
+pub returns-in_err-lifetime-clause-call : goal.returns-in_err-lifetime-clause-call
+unfolding set_said
+returns-in_err-lifetime-clause-call c = ap said c.from_residual-in_err-lifetime.ensures ∙ set_says _ _ _ _ _ _ c.in_ok-kind.ensures c.in_ok-clock.ensures c.in_ok-number.ensures c.in_err-lifetime.ensures refl
 
-pub returns-in_default-read_field-3 : goal.returns-in_default-read_field-3
-returns-in_default-read_field-3 c = none (flags_none _ _ _ _ _ _ (said_is c.read_field.ensures c.in-Some.is) (said_is c.read_field-2.ensures c.in-Some-read_field.is) (told_is c.read_value.ensures c.in-Is.is) (said_is c.read_field-3.ensures c.in-Some-read_field-2.is) (said_is c.read_field-4.ensures c.in_default-read_field-3.is))
-
-pub returns : goal.returns
-returns c = set_is _ _ _ _ _ (said_is c.read_field.ensures c.in-Some.is) (said_is c.read_field-2.ensures c.in-Some-read_field.is) (told_is c.read_value.ensures c.in-Is.is) (said_is c.read_field-3.ensures c.in-Some-read_field-2.is) (said_is c.read_field-4.ensures c.in-Some-read_field-3.is) (held_is (search rules) refl) (omega arith) (told_within c.read_value.ensures c.in-Is.is)
+pub returns-in_err-flags-clause-call : goal.returns-in_err-flags-clause-call
+unfolding set_said
+returns-in_err-flags-clause-call c = ap said c.from_residual-in_err-flags.ensures ∙ set_says _ _ _ _ _ _ c.in_ok-kind.ensures c.in_ok-clock.ensures c.in_ok-number.ensures c.in_ok-lifetime.ensures (c.in_err-flags.ensures ∙ ap (λ (n : ℕ). number_said n c.args.flags.now) c.from.ensures)
 
 pub overflow_cast-result : goal.overflow_cast-result
-overflow_cast-result c = omega (arith, (number_told (said_is c.read_field.ensures c.in-Some.is)).low)
+overflow_cast-result c = omega (arith, most_said _ c.in_ok-kind.ensures)
 
 pub overflow_cast-result-2 : goal.overflow_cast-result-2
-overflow_cast-result-2 c = omega (arith, (number_told (said_is c.read_field-4.ensures c.in-Some-read_field-3.is)).low)
+overflow_cast-result-2 c = omega (arith, most_said _ c.in_ok-flags.ensures)
+
+pub returns-clause-call : goal.returns-clause-call
+unfolding set_said
+returns-clause-call c =
+    ap (λ (z : ℤ). sets c.in_ok-clock.clock c.args.key.now c.in_ok-kind.kind z c.in_ok-number.text.now c.in_ok-lifetime.lifetime c.in_ok-flags.flags) (held_is (search rules) refl)
+    ∙ set_says _ _ _ _ _ _ c.in_ok-kind.ensures c.in_ok-clock.ensures c.in_ok-number.ensures c.in_ok-lifetime.ensures (c.in_ok-flags.ensures ∙ ap (λ (n : ℕ). number_said n c.args.flags.now) c.from.ensures)

@@ -1,28 +1,38 @@
 -- `lines::read_value` meets its contract.
-use Rattle.decimals.specs.WeightLaws.{number_told}
-use Rattle.lines.specs.CallLaws.{said_is}
-use Rattle.lines.specs.ValueLaws.{none, boolean_none, boolean_is, weight_none, weight_is, text_is, other_is}
-use native.Mathlib.Omega.{arith}
-use borrow.Author.Rules.{rules}
+use Rattle.std.proofs.Common.{ap, ◌∙◌, arith, rules, ℤ, [], refl}
+use Rattle.std.specs.Prelude.{Some}
+use Rattle.rules.specs.Replay.{boolean_said, number_value}
+use Rattle.values.specs.Bits.{held_is}
+use Rattle.decimals.specs.WeightLaws.{bits_plus}
+use Rattle.lines.specs.Saying.{value}
+use Rattle.lines.specs.CallLaws.{most_said, boolean_says, weight_says, text_says, other_says}
 use Rattle.lines.proofs.read_value.Goals as goal
 
-pub returns-in_default : goal.returns-in_default
-returns-in_default c = none (boolean_none _ c.if-kind-eq1.true (said_is c.read_field.ensures c.in_default.is))
-
-pub returns-then-kind-eq1 : goal.returns-then-kind-eq1
-returns-then-kind-eq1 c = boolean_is _ c.if-kind-eq1.true (said_is c.read_field.ensures c.in-Some.is) (number_told (said_is c.read_field.ensures c.in-Some.is)).low
-
-pub returns-in_default-read_weight : goal.returns-in_default-read_weight
-returns-in_default-read_weight c = none (weight_none _ c.if-kind-eq3.true (said_is c.read_weight.ensures c.in_default-read_weight.is))
-
-pub returns-then-kind-eq3 : goal.returns-then-kind-eq3
-returns-then-kind-eq3 c = weight_is _ c.if-kind-eq3.true (said_is c.read_weight.ensures c.in-Some-read_weight.is) (search rules)
-
-pub returns-then-kind-eq4 : goal.returns-then-kind-eq4
-returns-then-kind-eq4 c = text_is c.if-kind-eq4.true c.requires.0 c.requires.1
-
-pub returns : goal.returns
-returns c = other_is _ c.if-kind-eq1.false c.if-kind-eq3.false c.if-kind-eq4.false
+pub returns-in_err-read_number-in-1 : goal.returns-in_err-read_number-in-1
+unfolding boolean_said
+returns-in_err-read_number-in-1 c = ap value c.from_residual.ensures ∙ boolean_says _ _ c.in-1.is c.in_err-read_number-in-1.ensures
 
 pub overflow_cast-result : goal.overflow_cast-result
-overflow_cast-result c = omega (arith, (number_told (said_is c.read_field.ensures c.in-Some.is)).low)
+overflow_cast-result c = omega (arith, most_said _ c.in_ok-read_number-in-1.ensures)
+
+pub returns-in_ok-read_number-in-1 : goal.returns-in_ok-read_number-in-1
+unfolding boolean_said
+returns-in_ok-read_number-in-1 c =
+    ap (λ (n : ℤ). Some (record { number = n; text = [] })) (bits_plus _ (omega (arith, most_said _ c.in_ok-read_number-in-1.ensures)))
+    ∙ boolean_says _ _ c.in-1.is c.in_ok-read_number-in-1.ensures
+
+pub returns-in_err-read_weight-in-3 : goal.returns-in_err-read_weight-in-3
+unfolding number_value
+returns-in_err-read_weight-in-3 c = ap value c.from_residual-in_err-read_weight-in-3.ensures ∙ weight_says _ _ c.in-3.is c.in_err-read_weight-in-3.ensures
+
+pub returns-in_ok-read_weight-in-3 : goal.returns-in_ok-read_weight-in-3
+unfolding number_value
+returns-in_ok-read_weight-in-3 c =
+    ap (λ (n : ℤ). Some (record { number = n; text = [] })) (held_is (search rules) refl)
+    ∙ weight_says _ _ c.in-3.is c.in_ok-read_weight-in-3.ensures
+
+pub returns-in-4 : goal.returns-in-4
+returns-in-4 c = text_says _ _ (omega (arith, c.in-4.is))
+
+pub returns-in_default : goal.returns-in_default
+returns-in_default c = other_says _ _ (omega arith) (omega arith) (omega arith)

@@ -1,15 +1,14 @@
 -- `replay::do_line` meets its contract.
+use Rattle.std.proofs.Common.{arith}
 use Rattle.printing.specs.Printable.{TextInside}
 use Rattle.replay.specs.Progress.{lined}
-use native.Mathlib.Omega.{arith}
 use Rattle.replay.proofs.do_line.Goals as goal
 
-pub do_call-ran-requires : goal.do_call-ran-requires
-do_call-ran-requires c = record { ready = c.requires.ready; inside = c.parse-call.ensures.1 }
-
-pub write_line-end-requires : goal.write_line-end-requires
+pub write_line-requires-clause-text_inside : goal.write_line-requires-clause-text_inside
 unfolding TextInside
-write_line-end-requires c = record { text_inside = c.do_call-ran.ensures.text; pool_in_bounds = omega (arith, c.do_call-ran.auto, c.requires.pool_in_bounds) }
+write_line-requires-clause-text_inside c = rw c.bytes.ensures c.do_call-answer.ensures.runs.text
 
-pub returns : goal.returns
-returns c = lined c.parse-call.ensures.0 c.do_call-ran.ensures c.write_line-end.ensures.0 c.write_line-end.ensures.1 (omega (arith, c.do_call-ran.auto, c.requires.pool_in_bounds))
+pub returns-clause-lined : goal.returns-clause-lined
+returns-clause-lined c =
+    let w = rw c.bytes.ensures at c.write_line.ensures in
+    lined c.parse.ensures.call c.do_call-answer.ensures.runs w.0 w.1 (omega (arith, c.do_call-answer.ensures.same.bytes, c.requires))
