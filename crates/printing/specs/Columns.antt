@@ -4,7 +4,7 @@ use Rattle.std.proofs.Common.{sym, ap, ◌∙◌, append_assoc, length-append, a
 use Rattle.std.specs.Int.{w64}
 use borrow.Author.Tests.{eq-eqb, ne_eqb, eqb-false}
 use Rattle.rules.specs.declared.Answer.{Answer}
-use Rattle.rules.specs.Outcome.{Outcome}
+use Rattle.rules.specs.declared.Outcome.{Outcome}
 use Rattle.rules.specs.Layout.{part}
 use Rattle.rules.specs.Answer.{Fields, fields_of}
 use Rattle.rules.specs.Replay.{decimal, signed, value_shown, line_written}

@@ -11,8 +11,9 @@ use Rattle.std.specs.Int.{w64}
 use Rattle.rules.specs.declared.Operation.TheVariants.{Set}
 use borrow.Author.Tests.{ne_eqb, eq-eqb, le-leb, lt-leb}
 use Rattle.rules.specs.declared.Answer.{Answer}
-use Rattle.rules.specs.declared.Refusal.TheVariants.{NotSound}
-use Rattle.rules.specs.Outcome.{Check}
+use Rattle.rules.specs.declared.Outcome.{Outcome}
+use Rattle.rules.specs.declared.Outcome.TheVariants.{NotSound}
+use Rattle.rules.specs.Check.{Check}
 use Rattle.rules.specs.Layout.{cells_of, Memory, memory_of}
 use Rattle.rules.specs.Soundness.{right_lengths, sound}
 use Rattle.laws.specs.Lists.{nil, none_yet}
@@ -25,15 +26,14 @@ use Rattle.laws.specs.SoundMemory.{SoundMemory}
 use Rattle.laws.specs.CallsLaws.{gave_refused, gave_passed}
 use Rattle.laws.specs.Carry.{Carries, carries_encode, sound_carries, carries_sound}
 use Rattle.laws.specs.Steps.{carries_step}
-use Rattle.rules.specs.declared.Refusal.{Refusal}
 
 abbrev pub state : ℕ → List ℕ → List ℕ → Replay
 state cells dir pool = record { cells = cells; dir = dir; pool = pool }
 
 -- the answer that a call comes to: a refusal's tells nothing but its number
-abbrev pub come_to : R.Result Answer Refusal → Answer
+abbrev pub come_to : R.Result Answer Outcome → Answer
 come_to (Ok a) = a
-come_to (Err o) = plain (Err o) 0
+come_to (Err o) = plain o 0
 
 -- "Before the first `fresh` every call answers 1"
 abbrev pub in_use_check : ℕ → Check
@@ -82,17 +82,17 @@ front_of {P} {d} {p} words bytes h =
     }
 
 -- "Before the first `fresh` every call answers 1"
-pub called_early : (work : List ℕ → List ℕ → Result) (P : ℕ) (dir pool : List ℕ) {a : Answer} → P ≡ 0 → a ≡ plain (Err NotSound) 0 → done_as a P dir pool ≡ called work (state P dir pool)
+pub called_early : (work : List ℕ → List ℕ → Result) (P : ℕ) (dir pool : List ℕ) {a : Answer} → P ≡ 0 → a ≡ plain NotSound 0 → done_as a P dir pool ≡ called work (state P dir pool)
 unfolding called
 called_early work P dir pool {a} z e = rw (eq-eqb P 0 z) (ap (λ (x : Answer). done_as x P dir pool) e)
 
 -- what the check for it tells
-early_by : (b : Bool) (work : List ℕ → List ℕ → Result) (P : ℕ) (dir pool : List ℕ) {o : Refusal} → eqb P 0 ≡ b → Err o ≡ refuse NotSound b → done_as (plain (Err o) 0) P dir pool ≡ called work (state P dir pool)
+early_by : (b : Bool) (work : List ℕ → List ℕ → Result) (P : ℕ) (dir pool : List ℕ) {o : Outcome} → eqb P 0 ≡ b → Err o ≡ refuse NotSound b → done_as (plain o 0) P dir pool ≡ called work (state P dir pool)
 unfolding refuse
-early_by true work P dir pool {o} q i = let same : o ≡ NotSound = cc in called_early work P dir pool (eqb-true P 0 q) (ap (λ (x : Refusal). plain (Err x) 0) same)
+early_by true work P dir pool {o} q i = let same : o ≡ NotSound = cc in called_early work P dir pool (eqb-true P 0 q) (ap (λ (x : Outcome). plain (Err x) 0) same)
 early_by false work P dir pool q i = absurd (let t : false ≡ true = ap is_ok i in let z : ◌≡◌ {A = ℕ} 0 1 = cc in omega arith)
 
-pub refused_early : (work : List ℕ → List ℕ → Result) (P : ℕ) (dir pool : List ℕ) {o : Refusal} → Err o ≡ in_use_check P → done_as (plain (Err o) 0) P dir pool ≡ called work (state P dir pool)
+pub refused_early : (work : List ℕ → List ℕ → Result) (P : ℕ) (dir pool : List ℕ) {o : Outcome} → Err o ≡ in_use_check P → done_as (plain o 0) P dir pool ≡ called work (state P dir pool)
 refused_early work P dir pool e = early_by (eqb P 0) work P dir pool refl e
 
 used : {P : ℕ} {u : Unit} → Ok u ≡ in_use_check P → P ≡ 0 → ⊥
@@ -121,7 +121,7 @@ module _ {P : ℕ} {dir pool : List ℕ} (f : Front P dir pool) where
       rw (ne_eqb P 0 (λ z. absurd (omega (arith, f.some)))) (ap (λ (r : Result). done_as r.answer P (r.dir ++ later_words) (r.pool ++ later_bytes)) e)
 
   -- a call whose checks refuse leaves all
-  pub called_refused : (checks : List ℕ → List ℕ → Check) (work : Memory → Work) {o : Refusal} {a : Answer} → checks fd fp ≡ Err o → a ≡ plain (Err o) 0 → done_as a P dir pool ≡ called (λ d p. call (checks d p) work d p) (state P dir pool)
+  pub called_refused : (checks : List ℕ → List ℕ → Check) (work : Memory → Work) {o : Outcome} {a : Answer} → checks fd fp ≡ Err o → a ≡ plain o 0 → done_as a P dir pool ≡ called (λ d p. call (checks d p) work d p) (state P dir pool)
   called_refused checks work {o} {a} r e =
       ap (λ (d : List ℕ). done_as a P d pool) (sym (take-append-drop (2 + 6 * P) dir))
       ∙ ap (λ (p : List ℕ). done_as a P (fd ++ later_words) p) (sym (take-append-drop (32 * P) pool))
@@ -170,7 +170,7 @@ fresh_carries P dir pool low high hd hp =
     (carries_encode P (length dir) (record { entries = []; pool = replicate (length pool) 0 }) hd (omega arith) (record { some_cell = low; few_cells = high; pool_size = length-replicate (length pool) 0 ∙ hp; each = nil; apart = none_yet }))
 
 -- past what is lent
-pub fresh_over : (P : ℕ) (s : Replay) {a : Answer} → (length s.dir < 2 + 6 * P) ⊎ (length s.pool < 32 * P) → a ≡ plain (Err NotSound) 0 → record { answer = a; after = s } ≡ freshened P s
+pub fresh_over : (P : ℕ) (s : Replay) {a : Answer} → (length s.dir < 2 + 6 * P) ⊎ (length s.pool < 32 * P) → a ≡ plain NotSound 0 → record { answer = a; after = s } ≡ freshened P s
 unfolding freshened
 fresh_over P s {a} over e = rw (short over) (ap (λ (x : Answer). record { answer = x; after = s }) e)
   where

@@ -2,8 +2,8 @@
 use Rattle.std.specs.Prelude.{◌≡◌, refl, Bool, true, false, cond, ◌&&◌, List, ◌++◌, ℕ, ◌+◌, ◌*◌, ◌^◌, ◌≤◌, ◌<◌, eqb, leb, length, take, drop, Err}
 use Rattle.std.proofs.Common.{sym, ap, subst, arith, ne_eqb, eq-eqb, leb-true}
 use Rattle.rules.specs.declared.Answer.{Answer}
-use Rattle.rules.specs.Outcome.{Outcome}
-use Rattle.rules.specs.declared.Refusal.TheVariants.{NotSound}
+use Rattle.rules.specs.declared.Outcome.{Outcome}
+use Rattle.rules.specs.declared.Outcome.TheVariants.{NotSound}
 use Rattle.rules.specs.declared.Operation.TheVariants.{Set}
 use Rattle.rules.specs.Answer.{fields_of, plain}
 use Rattle.rules.specs.Calls.{Result, fresh_call, store_call, get_call, delete_call}
@@ -61,7 +61,7 @@ unfolding called on_front fields_of
 text_called work w s = go (eqb s.cells 0)
   where
     after : Bool → LineDone
-    after b = cond b (record { answer = plain (Err NotSound) 0; after = s }) (record { answer = answered s.cells work s; after = on_front s.cells work s })
+    after b = cond b (record { answer = plain NotSound 0; after = s }) (record { answer = answered s.cells work s; after = on_front s.cells work s })
 
     go : (b : Bool) → Within (length (after b).after.pool) (after b).answer.outcome
     go true t = absurd (omega (arith, t))
@@ -80,7 +80,7 @@ unfolding freshened on_front fields_of
 text_fresh P s = go (leb (2 + 6 * P) (length s.dir) && leb (32 * P) (length s.pool))
   where
     after : Bool → LineDone
-    after b = cond b (record { answer = answered P fresh_call s; after = on_front P fresh_call s }) (record { answer = plain (Err NotSound) 0; after = s })
+    after b = cond b (record { answer = answered P fresh_call s; after = on_front P fresh_call s }) (record { answer = plain NotSound 0; after = s })
 
     go : (b : Bool) → Within (length (after b).after.pool) (after b).answer.outcome
     go true t = fresh_within (length (on_front P fresh_call s).pool) (front_dir P s) (front_pool P s) t

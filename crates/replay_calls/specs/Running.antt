@@ -4,8 +4,8 @@ use Rattle.std.proofs.Common.{sym, subst, ◌∙◌, arith, to_z, of_z, SFits, t
 use Rattle.std.specs.Int.{w64}
 use Rattle.rules.specs.declared.Answer.{Answer}
 use Rattle.rules.specs.declared.Operation.TheVariants.{Set}
-use Rattle.rules.specs.declared.Refusal.{Refusal}
-use Rattle.rules.specs.declared.Refusal.TheVariants.{LineUnreadable}
+use Rattle.rules.specs.declared.Outcome.{Outcome}
+use Rattle.rules.specs.declared.Outcome.TheVariants.{LineUnreadable}
 use Rattle.rules.specs.Layout.{memory_of}
 use Rattle.rules.specs.Answer.{plain}
 use Rattle.rules.specs.Checks.{◌then◌, check_clock, check_key, check_kind, check_nil, check_lifetime, key_checks, store_checks}
@@ -22,21 +22,21 @@ module _ (P : ℕ) (dir pool : List ℕ) where
   abbrev after : List ℕ → List ℕ → Replay
   after d p = state P (d ++ drop (2 + 6 * P) dir) (p ++ drop (32 * P) pool)
 
-  module _ (clock : ℕ) (key : List ℕ) {o : Refusal} where
-    pub get_early : Ready P dir pool → Err o ≡ in_use_check P → Runs (gets clock key) s (plain (Err o) 0) s
+  module _ (clock : ℕ) (key : List ℕ) {o : Outcome} where
+    pub get_early : Ready P dir pool → Err o ≡ in_use_check P → Runs (gets clock key) s (plain o 0) s
     unfolding line_done
     get_early r e = runs (omega arith) r (refused_early (λ d p. get_call d p clock key) P dir pool e)
 
-    pub delete_early : Ready P dir pool → Err o ≡ in_use_check P → Runs (deletes clock key) s (plain (Err o) 0) s
+    pub delete_early : Ready P dir pool → Err o ≡ in_use_check P → Runs (deletes clock key) s (plain o 0) s
     unfolding line_done
     delete_early r e = runs (omega arith) r (refused_early (λ d p. delete_call d p clock key) P dir pool e)
 
-    pub set_early : (kind : ℕ) (number : ℤ) (text : List ℕ) (lifetime flags : ℕ) → flags < 2 ^ 32 → Ready P dir pool → Err o ≡ in_use_check P → Runs (sets clock key kind number text lifetime flags) s (plain (Err o) 0) s
+    pub set_early : (kind : ℕ) (number : ℤ) (text : List ℕ) (lifetime flags : ℕ) → flags < 2 ^ 32 → Ready P dir pool → Err o ≡ in_use_check P → Runs (sets clock key kind number text lifetime flags) s (plain o 0) s
     unfolding line_done
     set_early kind number text lifetime flags h r e = runs h r (refused_early (λ d p. store_call Set d p clock key kind number text lifetime flags) P dir pool e)
 
   module _ (f : Front P dir pool) (clock : ℕ) (key : List ℕ) where
-    pub get_refused : {o : Refusal} → Err o ≡ (check_clock clock then check_key key) → Runs (gets clock key) s (plain (Err o) 0) s
+    pub get_refused : {o : Outcome} → Err o ≡ (check_clock clock then check_key key) → Runs (gets clock key) s (plain o 0) s
     unfolding line_done get_call
     get_refused e = runs (omega arith) (in_use f) (called_refused f (λ d p. key_checks d p clock key) (get_work clock key) (key_behind _ _ f.front_sound clock key ∙ sym e) refl)
 
@@ -44,7 +44,7 @@ module _ (P : ℕ) (dir pool : List ℕ) where
     unfolding line_done get_call
     get_done e h = runs (omega arith) (in_use f) (called_passed f (λ d p. key_checks d p clock key) (get_work clock key) (key_behind _ _ f.front_sound clock key ∙ sym e) h)
 
-    pub delete_refused : {o : Refusal} → Err o ≡ (check_clock clock then check_key key) → Runs (deletes clock key) s (plain (Err o) 0) s
+    pub delete_refused : {o : Outcome} → Err o ≡ (check_clock clock then check_key key) → Runs (deletes clock key) s (plain o 0) s
     unfolding line_done delete_call
     delete_refused e = runs (omega arith) (in_use f) (called_refused f (λ d p. key_checks d p clock key) (delete_work clock key) (key_behind _ _ f.front_sound clock key ∙ sym e) refl)
 
@@ -53,7 +53,7 @@ module _ (P : ℕ) (dir pool : List ℕ) where
     delete_done e h = runs (omega arith) (in_use f) (called_passed f (λ d p. key_checks d p clock key) (delete_work clock key) (key_behind _ _ f.front_sound clock key ∙ sym e) h)
 
     module _ (kind : ℕ) (number : ℤ) (text : List ℕ) (lifetime flags : ℕ) (h : flags < 2 ^ 32) where
-      pub set_refused : {o : Refusal} → Err o ≡ (check_clock clock then check_key key then check_kind kind then check_nil Set kind then check_lifetime clock lifetime) → Runs (sets clock key kind number text lifetime flags) s (plain (Err o) 0) s
+      pub set_refused : {o : Outcome} → Err o ≡ (check_clock clock then check_key key then check_kind kind then check_nil Set kind then check_lifetime clock lifetime) → Runs (sets clock key kind number text lifetime flags) s (plain o 0) s
       unfolding line_done store_call
       set_refused e =
           runs h (in_use f)
@@ -70,7 +70,7 @@ pub fresh_runs : (P count : ℕ) (dir pool : List ℕ) {a : Answer} {after : Rep
 unfolding line_done
 fresh_runs P count dir pool r low high e = runs (low, high) r e
 
-pub unreadable_runs : (P : ℕ) (dir pool : List ℕ) → Ready P dir pool → Runs unreadable (state P dir pool) (plain (Err LineUnreadable) 0) (state P dir pool)
+pub unreadable_runs : (P : ℕ) (dir pool : List ℕ) → Ready P dir pool → Runs unreadable (state P dir pool) (plain LineUnreadable 0) (state P dir pool)
 unfolding line_done
 unreadable_runs P dir pool r = runs (omega arith) r refl
 

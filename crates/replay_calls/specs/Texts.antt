@@ -3,11 +3,9 @@ use Rattle.std.specs.Prelude.{◌≡◌, refl, Bool, true, false, cond, not, Lis
 use Rattle.std.proofs.Math.Path.{sym}
 use Rattle.std.proofs.Common.{◌∙◌, subst, arith}
 use Rattle.rules.specs.declared.Entry.{Entry}
-use Rattle.rules.specs.declared.Refusal.{Refusal}
-use Rattle.rules.specs.Outcome.{Outcome}
-use Rattle.rules.specs.declared.Reply.TheVariants.{Done, Number, Boolean, Text}
-use Rattle.rules.specs.declared.Refusal.TheVariants.{NotSound}
-use Rattle.rules.specs.Outcome.{Check}
+use Rattle.rules.specs.declared.Outcome.{Outcome}
+use Rattle.rules.specs.declared.Outcome.TheVariants.{Done, Number, Boolean, Text, NotSound}
+use Rattle.rules.specs.Check.{Check}
 use Rattle.rules.specs.declared.Found.{Found}
 use Rattle.rules.specs.declared.Found.TheVariants.{Live, Dead, Missing}
 use Rattle.rules.specs.declared.Operation.TheVariants.{Set}
@@ -38,14 +36,14 @@ bare_within n o b t = absurd (omega (arith, sym b ∙ t))
 
 BareCheck : Check → Type 0
 BareCheck (Ok _) = 0 ≤ 0
-BareCheck (Err o) = Bare (Err o)
+BareCheck (Err o) = Bare o
 
 bare_then : (a b : Check) → BareCheck a → BareCheck b → BareCheck (a then b)
 unfolding ◌then◌ BareCheck
 bare_then (Ok _) b x y = y
 bare_then (Err o) b x y = x
 
-bare_refuse : (o : Refusal) (b : Bool) → Bare (Err o) → BareCheck (refuse o b)
+bare_refuse : (o : Outcome) (b : Bool) → Bare o → BareCheck (refuse o b)
 unfolding refuse BareCheck
 bare_refuse o true x = x
 bare_refuse o false x = omega arith
@@ -67,7 +65,7 @@ bare_store dir pool clock key kind lifetime =
 
 call_within : (n : ℕ) (c : Check) (work : Memory → Work) (dir pool : List ℕ) → BareCheck c → Within n (work (memory_of dir pool)).answer.outcome → Within n (call c work dir pool).answer.outcome
 unfolding call BareCheck
-call_within n (Err o) work dir pool b w = bare_within n (Err o) b
+call_within n (Err o) work dir pool b w = bare_within n o b
 call_within n (Ok _) work dir pool b w = w
 
 -- ---- the stores
@@ -77,19 +75,19 @@ unfolding fit_outcome fields_of
 bare_fit told (Some start) b = b
 bare_fit told None b = refl
 
-bare_placed : (most clock : ℕ) (item : Item) (removed : ℕ) (m : Memory) → Bare (place_anew most clock item (Ok Done) removed m).answer.outcome
+bare_placed : (most clock : ℕ) (item : Item) (removed : ℕ) (m : Memory) → Bare (place_anew most clock item Done removed m).answer.outcome
 unfolding place_anew placed_by if_room fields_of
-bare_placed most clock item removed m = bare_fit (Ok Done) (searched most clock item m).fit refl
+bare_placed most clock item removed m = bare_fit Done (searched most clock item m).fit refl
 
-bare_over : (most clock : ℕ) (item : Item) (removed : ℕ) (m : Memory) (i : ℕ) → Bare (store_over most clock item (Ok Done) removed m i).answer.outcome
+bare_over : (most clock : ℕ) (item : Item) (removed : ℕ) (m : Memory) (i : ℕ) → Bare (store_over most clock item Done removed m i).answer.outcome
 unfolding store_over fields_of
 bare_over most clock item removed m i = go (same_length item i m) (bare_placed most clock item removed (remove i m))
   where
-    go : (b : Bool) → Bare (place_anew most clock item (Ok Done) removed (remove i m)).answer.outcome → Bare (cond b (did (Ok Done) removed (overwrite_at item i m)) (place_anew most clock item (Ok Done) removed (remove i m))).answer.outcome
+    go : (b : Bool) → Bare (place_anew most clock item Done removed (remove i m)).answer.outcome → Bare (cond b (did Done removed (overwrite_at item i m)) (place_anew most clock item Done removed (remove i m))).answer.outcome
     go true h = refl
     go false h = h
 
-bare_item : (most clock : ℕ) (item : Item) (removed : ℕ) (m : Memory) (f : Found) → Bare (store_item most clock item (Ok Done) removed m f).answer.outcome
+bare_item : (most clock : ℕ) (item : Item) (removed : ℕ) (m : Memory) (f : Found) → Bare (store_item most clock item Done removed m f).answer.outcome
 unfolding store_item
 bare_item most clock item removed m (Live i) = bare_over most clock item removed m i
 bare_item most clock item removed m (Dead i) = bare_over most clock item removed m i
@@ -105,7 +103,7 @@ bare_found : (clock : ℕ) (item : Item) (removed : ℕ) (m : Memory) (f : Found
 unfolding store_found store_admitted admits
 bare_found clock item removed m f = go (eqb item.kind 0) (bare_delete removed m f) (bare_item (most_rounds Set) clock item removed m f)
   where
-    go : (b : Bool) → Bare (delete_found removed m f).answer.outcome → Bare (store_item (most_rounds Set) clock item (Ok Done) removed m f).answer.outcome → Bare (cond b (delete_found removed m f) (store_item (most_rounds Set) clock item (Ok Done) removed m f)).answer.outcome
+    go : (b : Bool) → Bare (delete_found removed m f).answer.outcome → Bare (store_item (most_rounds Set) clock item Done removed m f).answer.outcome → Bare (cond b (delete_found removed m f) (store_item (most_rounds Set) clock item Done removed m f)).answer.outcome
     go true x y = x
     go false x y = y
 
@@ -115,7 +113,7 @@ shown_within : (P : ℕ) (m : Memory) (e : Entry) → SoundMemory P m → Fine P
 unfolding shown fields_of
 shown_within P m e s f = go (eqb e.kind 1) (eqb e.kind 3)
   where
-    go : (a b : Bool) → Within (length m.pool) (cond a (Ok (Boolean e.flags (not (eqb (get_or m.pool (value_offset e) 0) 0)) (value_offset e))) (cond b (Ok (Number e.flags (number_at m.pool e) (value_offset e))) (Ok (Text e.flags (value_offset e) e.vlen))))
+    go : (a b : Bool) → Within (length m.pool) (cond a (Boolean e.flags (not (eqb (get_or m.pool (value_offset e) 0) 0)) (value_offset e)) (cond b (Number e.flags (number_at m.pool e) (value_offset e)) (Text e.flags (value_offset e) e.vlen)))
     go true b t = absurd (omega (arith, t))
     go false true t = absurd (omega (arith, t))
     go false false t = omega (arith, f.inside, s.pool_size)
@@ -154,4 +152,4 @@ delete_within n dir pool clock key =
 
 pub fresh_within : (n : ℕ) (dir pool : List ℕ) → Within n (fresh_call dir pool).answer.outcome
 unfolding fresh_call fresh_work check_lengths fields_of
-fresh_within n dir pool = call_within n (check_lengths dir pool) fresh_work dir pool (bare_refuse NotSound (not (right_lengths dir pool)) refl) (bare_within n (Ok Done) refl)
+fresh_within n dir pool = call_within n (check_lengths dir pool) fresh_work dir pool (bare_refuse NotSound (not (right_lengths dir pool)) refl) (bare_within n Done refl)

@@ -8,7 +8,7 @@ ghost use Rattle.replay_calls.specs.Front.{Ready, ready_sole, come_to, in_use_ch
 ghost use Rattle.replay_calls.specs.Ready.{Runs};
 
 use lines::Call;
-use rules::{Answer, Operation, Refusal};
+use rules::{Answer, Operation, Outcome};
 
 // The lent memory: its words, its bytes, and how many cells at its front are in use, those of the last `fresh` done.
 #[derive(Drop)]
@@ -30,11 +30,11 @@ impl Lent<'_> {
     }
 
     // Refuses where there is nothing to look in.
-    fn check_in_use(&self) -> Result<(), Refusal>
+    fn check_in_use(&self) -> Result<(), Outcome>
         ensures { result ≡ in_use_check self.now.cells }
     {
         if self.cells == 0 {
-            return Err(Refusal::NotSound); // no `fresh` yet
+            return Err(Outcome::NotSound); // no `fresh` yet
         }
         Ok(())
     }
@@ -109,10 +109,10 @@ impl Lent<'_> {
         let words = 2 + 6 * count;
         let bytes = 32 * count;
         if self.dir.len() < words {
-            return Err(Refusal::NotSound); // too few words are lent
+            return Err(Outcome::NotSound); // too few words are lent
         }
         if self.pool.len() < bytes {
-            return Err(Refusal::NotSound);
+            return Err(Outcome::NotSound);
         }
         let answer = memory::make_fresh(&mut self.dir[..words], &mut self.pool[..bytes]);
         self.cells = count;
@@ -126,7 +126,7 @@ impl Lent<'_> {
         ensures same { Same self.old self.new }
     {
         let Some(call) = call else {
-            return Err(Refusal::LineUnreadable);
+            return Err(Outcome::LineUnreadable);
         };
         match call {
             Call::Fresh { cells } => self.fresh(cells),
@@ -152,7 +152,7 @@ impl Lent<'_> {
     {
         match self.try_call(call) {
             Ok(answer) => answer,
-            Err(refusal) => Answer::plain(Err(refusal), 0),
+            Err(refusal) => Answer::plain(refusal, 0),
         }
     }
 }

@@ -1,6 +1,6 @@
 -- `Lent::check_in_use` meets its contract.
 use Rattle.std.proofs.Common.{ap, sym, eq-eqb, ne_eqb}
-use Rattle.rules.specs.declared.Refusal.TheVariants.{NotSound}
+use Rattle.rules.specs.declared.Outcome.TheVariants.{NotSound}
 use Rattle.rules.specs.Checks.{refuse}
 use Rattle.replay_calls.proofs.Lent.check_in_use.Goals as goal
 
