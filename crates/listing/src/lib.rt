@@ -100,8 +100,8 @@ fn fill_rows(rows: &mut [Row], table: &[u64], n: usize)
     requires { Fits n (length rows.old) (length table.now) }
     ensures { rows.new ≡ filled rows.old table.now n }
 {
-    for k in 0..n {
-        rows[k] = row_at(table, k);
+    for (k, row) in rows[..n].iter_mut().enumerate() {
+        *row = row_at(table, k);
     }
 }
 
