@@ -89,7 +89,7 @@ called_early work P dir pool {a} z e = rw (eq-eqb P 0 z) (ap (λ (x : Answer). d
 -- what the check for it tells
 early_by : (b : Bool) (work : List ℕ → List ℕ → Result) (P : ℕ) (dir pool : List ℕ) {o : Outcome} → eqb P 0 ≡ b → Err o ≡ refuse NotSound b → done_as (plain o 0) P dir pool ≡ called work (state P dir pool)
 unfolding refuse
-early_by true work P dir pool {o} q i = let same : o ≡ NotSound = cc in called_early work P dir pool (eqb-true P 0 q) (ap (λ (x : Outcome). plain (Err x) 0) same)
+early_by true work P dir pool {o} q i = let same : o ≡ NotSound = cc in called_early work P dir pool (eqb-true P 0 q) (ap (λ (x : Outcome). plain x 0) same)
 early_by false work P dir pool q i = absurd (let t : false ≡ true = ap is_ok i in let z : ◌≡◌ {A = ℕ} 0 1 = cc in omega arith)
 
 pub refused_early : (work : List ℕ → List ℕ → Result) (P : ℕ) (dir pool : List ℕ) {o : Outcome} → Err o ≡ in_use_check P → done_as (plain o 0) P dir pool ≡ called work (state P dir pool)

@@ -12,7 +12,7 @@ use Rattle.rules.specs.Checks.{◌then◌, check_clock, check_key, check_kind, c
 use Rattle.rules.specs.Calls.{Does, store_call, get_call, delete_call, get_work, delete_work, store_work, item_of}
 use Rattle.rules.specs.Replay.{Replay, freshes, sets, gets, deletes, unreadable, freshened, line_done}
 use Rattle.laws.specs.ChecksLaws.{key_behind, store_behind}
-use Rattle.replay_calls.specs.Front.{state, Front, Ready, in_use, in_use_check, refused_early, called_refused, called_passed, set_passed}
+use Rattle.replay_calls.specs.Front.{state, Front, Ready, in_use, in_use_check, refused_early, called_refused, called_passed}
 use Rattle.replay_calls.specs.Ready.{Runs, runs}
 
 module _ (P : ℕ) (dir pool : List ℕ) where
@@ -59,10 +59,11 @@ module _ (P : ℕ) (dir pool : List ℕ) where
           runs h (in_use f)
           (called_refused f (λ d p. store_checks Set d p clock key kind lifetime) (store_work Set clock (item_of clock key kind number text lifetime flags)) (store_behind _ _ f.front_sound Set clock key kind lifetime ∙ sym e) refl)
 
-      -- the code holds the number in 64 bits
-      pub set_done : {u : Unit} {a : Answer} {d p : List ℕ} → SFits w64 number → Ok u ≡ (check_clock clock then check_key key then check_kind kind then check_nil Set kind then check_lifetime clock lifetime) → Does (store_work Set clock (item_of clock key kind (to_z w64 (of_z w64 number)) text lifetime flags) (memory_of (take (2 + 6 * P) dir) (take (32 * P) pool))) (length (take (2 + 6 * P) dir)) a d p → Runs (sets clock key kind number text lifetime flags) s a (after d p)
-      unfolding line_done
-      set_done n e x = runs h (in_use f) (set_passed f clock key kind number text lifetime flags n (store_behind _ _ f.front_sound Set clock key kind lifetime ∙ sym e) x)
+      pub set_done : {u : Unit} {a : Answer} {d p : List ℕ} → Ok u ≡ (check_clock clock then check_key key then check_kind kind then check_nil Set kind then check_lifetime clock lifetime) → Does (store_work Set clock (item_of clock key kind number text lifetime flags) (memory_of (take (2 + 6 * P) dir) (take (32 * P) pool))) (length (take (2 + 6 * P) dir)) a d p → Runs (sets clock key kind number text lifetime flags) s a (after d p)
+      unfolding line_done store_call
+      set_done e x =
+          runs h (in_use f)
+          (called_passed f (λ d p. store_checks Set d p clock key kind lifetime) (store_work Set clock (item_of clock key kind number text lifetime flags)) (store_behind _ _ f.front_sound Set clock key kind lifetime ∙ sym e) x)
 
 -- ---- fresh, and a line that is not understood
 

@@ -9,6 +9,7 @@ ghost use Rattle.replay_calls.specs.Ready.{Runs};
 
 use lines::Call;
 use rules::{Answer, Operation, Outcome};
+use storing::Value;
 
 // The lent memory: its words, its bytes, and how many cells at its front are in use, those of the last `fresh` done.
 #[derive(Drop)]
@@ -40,7 +41,7 @@ impl Lent<'_> {
     }
 
     // get. The front is known to be sound: its soundness is not tested again.
-    fn get(&mut self, clock: u64, key: &[u8]) -> Result<Answer, Refusal>
+    fn get(&mut self, clock: u64, key: &[u8]) -> Result<Answer, Outcome>
         ensures runs { Runs (gets clock key.now) (left self.old) (come_to result) (left self.new) }
         ensures same { Same self.old self.new }
     {
@@ -55,7 +56,7 @@ impl Lent<'_> {
     }
 
     // delete.
-    fn delete(&mut self, clock: u64, key: &[u8]) -> Result<Answer, Refusal>
+    fn delete(&mut self, clock: u64, key: &[u8]) -> Result<Answer, Outcome>
         ensures runs { Runs (deletes clock key.now) (left self.old) (come_to result) (left self.new) }
         ensures same { Same self.old self.new }
     {
@@ -70,37 +71,24 @@ impl Lent<'_> {
     }
 
     // set.
-    fn set(
-        &mut self,
-        clock: u64,
-        key: &[u8],
-        kind: u8,
-        number: i64,
-        text: &[u8],
-        lifetime: u64,
-        flags: u32,
-    ) -> Result<Answer, Refusal>
-        ensures runs { Runs (sets clock key.now kind number text.now lifetime flags) (left self.old) (come_to result) (left self.new) }
+    fn set(&mut self, clock: u64, key: &[u8], value: Value) -> Result<Answer, Outcome>
+        ensures runs { Runs (sets clock key.now value.entry.kind value.entry.number value.entry.text.now value.entry.lifetime value.entry.flags) (left self.old) (come_to result) (left self.new) }
         ensures same { Same self.old self.new }
     {
         self.check_in_use()?;
-        checks::store_arguments(Operation::Set, clock, key, kind, lifetime)?;
+        checks::store_arguments(Operation::Set, clock, key, value.kind, value.lifetime)?;
         Ok(storing::store_in(
             Operation::Set,
             &mut self.dir[..2 + 6 * self.cells],
             &mut self.pool[..32 * self.cells],
             clock,
             key,
-            kind,
-            number,
-            text,
-            lifetime,
-            flags,
+            value,
         ))
     }
 
     // fresh: an empty memory of `count` cells at the front, where that much is lent.
-    fn fresh(&mut self, count: usize) -> Result<Answer, Refusal>
+    fn fresh(&mut self, count: usize) -> Result<Answer, Outcome>
         requires some { 1 ≤ count }
         requires few { count ≤ 1024 }
         ensures runs { Runs (freshes count) (left self.old) (come_to result) (left self.new) }
@@ -120,7 +108,7 @@ impl Lent<'_> {
     }
 
     // The call that a line makes, or why it is refused.
-    fn try_call(&mut self, call: Option<Call<'_>>) -> Result<Answer, Refusal>
+    fn try_call(&mut self, call: Option<Call<'_>>) -> Result<Answer, Outcome>
         requires { Fine call }
         ensures runs { Runs (said call.entry) (left self.old) (come_to result) (left self.new) }
         ensures same { Same self.old self.new }
@@ -138,7 +126,16 @@ impl Lent<'_> {
                 text,
                 lifetime,
                 flags,
-            } => self.set(clock, key, kind, number, text, lifetime, flags),
+            } => {
+                let value = Value {
+                    kind,
+                    number,
+                    text,
+                    lifetime,
+                    flags,
+                };
+                self.set(clock, key, value)
+            }
             Call::Get { clock, key } => self.get(clock, key),
             Call::Delete { clock, key } => self.delete(clock, key),
         }

@@ -1,8 +1,7 @@
 -- Calls that the second program (second/) made, computed once more by the definitions: the whole answer, all words and all bytes.
 -- Written by `cargo run --release --offline --bin vectors` in sessions/, not by hand.
-use Rattle.std.specs.Prelude.{◌≡◌, refl, true, false, [], ◌∷◌, ◌++◌, replicate, pos, negsuc, Ok, Err, None}
-use Rattle.rules.specs.declared.Reply.TheVariants.{Done}
-use Rattle.rules.specs.declared.Refusal.TheVariants.{NotSound}
+use Rattle.std.specs.Prelude.{◌≡◌, refl, true, false, [], ◌∷◌, ◌++◌, replicate, pos, negsuc, None}
+use Rattle.rules.specs.declared.Outcome.TheVariants.{Done, NotSound}
 use Rattle.rules.specs.Layout.{encode, decode, flat, entries_of, key_of, memory_of}
 use Rattle.rules.specs.LookUp.{same, key_is}
 use Rattle.rules.specs.Place.{holds, held, free_run}
@@ -12,57 +11,57 @@ use Rattle.rules.specs.Checks.{refuse, check_lengths, check_sound}
 use Rattle.rules.specs.Calls.{gave, call, fresh_work, fresh_call}
 
 -- make_fresh: 0, rounds 0, removed 0
-pub v001_make_fresh : fresh_call (1 ∷ replicate 13 0) (replicate 64 0) ≡ gave (plain (Ok Done) 0) (1 ∷ replicate 13 0) (replicate 64 0)
+pub v001_make_fresh : fresh_call (1 ∷ replicate 13 0) (replicate 64 0) ≡ gave (plain Done 0) (1 ∷ replicate 13 0) (replicate 64 0)
 unfolding entries_of decode right_lengths refuse check_lengths fresh_work fresh_call memory_of encode flat call
 v001_make_fresh = refl
 
 -- make_fresh: 0, rounds 0, removed 0
-pub v002_make_fresh : fresh_call (1 ∷ 2 ∷ 74 ∷ 1 ∷ 4294967295 ∷ 2 ∷ 3 ∷ 1 ∷ 76 ∷ 3 ∷ 5 ∷ 0 ∷ 40 ∷ 8 ∷ replicate 12 0) (replicate 40 107 ++ 157 ∷ 60 ∷ replicate 6 255 ++ replicate 16 7 ++ 97 ∷ 98 ∷ 99 ∷ 1 ∷ replicate 60 7) ≡ gave (plain (Ok Done) 0) (1 ∷ replicate 25 0) (replicate 128 0)
+pub v002_make_fresh : fresh_call (1 ∷ 2 ∷ 74 ∷ 1 ∷ 4294967295 ∷ 2 ∷ 3 ∷ 1 ∷ 76 ∷ 3 ∷ 5 ∷ 0 ∷ 40 ∷ 8 ∷ replicate 12 0) (replicate 40 107 ++ 157 ∷ 60 ∷ replicate 6 255 ++ replicate 16 7 ++ 97 ∷ 98 ∷ 99 ∷ 1 ∷ replicate 60 7) ≡ gave (plain Done 0) (1 ∷ replicate 25 0) (replicate 128 0)
 unfolding entries_of decode right_lengths refuse check_lengths fresh_work fresh_call memory_of encode flat call
 v002_make_fresh = refl
 
 -- make_fresh: 0, rounds 0, removed 0
-pub v003_make_fresh : fresh_call (1 ∷ 1 ∷ 163 ∷ 4 ∷ 0 ∷ 0 ∷ 1 ∷ 95 ∷ replicate 18 0) (98 ∷ replicate 95 120 ++ replicate 32 7) ≡ gave (plain (Ok Done) 0) (1 ∷ replicate 25 0) (replicate 128 0)
+pub v003_make_fresh : fresh_call (1 ∷ 1 ∷ 163 ∷ 4 ∷ 0 ∷ 0 ∷ 1 ∷ 95 ∷ replicate 18 0) (98 ∷ replicate 95 120 ++ replicate 32 7) ≡ gave (plain Done 0) (1 ∷ replicate 25 0) (replicate 128 0)
 unfolding entries_of decode right_lengths refuse check_lengths fresh_work fresh_call memory_of encode flat call
 v003_make_fresh = refl
 
 -- make_fresh: 0, rounds 0, removed 0
-pub v004_make_fresh : fresh_call (1 ∷ 1 ∷ 0 ∷ 4 ∷ 4294967295 ∷ 0 ∷ 2 ∷ 8 ∷ replicate 18 0) (97 ∷ 98 ∷ replicate 8 120 ++ replicate 22 0 ++ replicate 96 7) ≡ gave (plain (Ok Done) 0) (1 ∷ replicate 25 0) (replicate 128 0)
+pub v004_make_fresh : fresh_call (1 ∷ 1 ∷ 0 ∷ 4 ∷ 4294967295 ∷ 0 ∷ 2 ∷ 8 ∷ replicate 18 0) (97 ∷ 98 ∷ replicate 8 120 ++ replicate 22 0 ++ replicate 96 7) ≡ gave (plain Done 0) (1 ∷ replicate 25 0) (replicate 128 0)
 unfolding entries_of decode right_lengths refuse check_lengths fresh_work fresh_call memory_of encode flat call
 v004_make_fresh = refl
 
 -- make_fresh: 0, rounds 0, removed 0
-pub v005_make_fresh : fresh_call (1 ∷ 2 ∷ 0 ∷ 3 ∷ 4294967295 ∷ 1 ∷ 1 ∷ 8 ∷ 119 ∷ 1 ∷ 5 ∷ 0 ∷ 2 ∷ 1 ∷ replicate 12 0) (97 ∷ 98 ∷ 1 ∷ replicate 29 0 ++ 100 ∷ 150 ∷ 62 ∷ replicate 93 0) ≡ gave (plain (Ok Done) 0) (1 ∷ replicate 25 0) (replicate 128 0)
+pub v005_make_fresh : fresh_call (1 ∷ 2 ∷ 0 ∷ 3 ∷ 4294967295 ∷ 1 ∷ 1 ∷ 8 ∷ 119 ∷ 1 ∷ 5 ∷ 0 ∷ 2 ∷ 1 ∷ replicate 12 0) (97 ∷ 98 ∷ 1 ∷ replicate 29 0 ++ 100 ∷ 150 ∷ 62 ∷ replicate 93 0) ≡ gave (plain Done 0) (1 ∷ replicate 25 0) (replicate 128 0)
 unfolding entries_of decode right_lengths refuse check_lengths fresh_work fresh_call memory_of encode flat call
 v005_make_fresh = refl
 
 -- make_fresh: 1, rounds 0, removed 0
-pub v006_make_fresh : fresh_call (1 ∷ 3 ∷ 119 ∷ 3 ∷ 5 ∷ 1 ∷ 2 ∷ 8 ∷ 116 ∷ 1 ∷ 5 ∷ 2 ∷ 1 ∷ 1 ∷ 105 ∷ 4 ∷ 4294967295 ∷ 0 ∷ 1 ∷ 30 ∷ replicate 6 0) [] ≡ gave (plain (Err NotSound) 0) (1 ∷ 3 ∷ 119 ∷ 3 ∷ 5 ∷ 1 ∷ 2 ∷ 8 ∷ 116 ∷ 1 ∷ 5 ∷ 2 ∷ 1 ∷ 1 ∷ 105 ∷ 4 ∷ 4294967295 ∷ 0 ∷ 1 ∷ 30 ∷ replicate 6 0) []
+pub v006_make_fresh : fresh_call (1 ∷ 3 ∷ 119 ∷ 3 ∷ 5 ∷ 1 ∷ 2 ∷ 8 ∷ 116 ∷ 1 ∷ 5 ∷ 2 ∷ 1 ∷ 1 ∷ 105 ∷ 4 ∷ 4294967295 ∷ 0 ∷ 1 ∷ 30 ∷ replicate 6 0) [] ≡ gave (plain NotSound 0) (1 ∷ 3 ∷ 119 ∷ 3 ∷ 5 ∷ 1 ∷ 2 ∷ 8 ∷ 116 ∷ 1 ∷ 5 ∷ 2 ∷ 1 ∷ 1 ∷ 105 ∷ 4 ∷ 4294967295 ∷ 0 ∷ 1 ∷ 30 ∷ replicate 6 0) []
 unfolding entries_of decode right_lengths refuse check_lengths fresh_work fresh_call memory_of encode flat call
 v006_make_fresh = refl
 
 -- make_fresh: 0, rounds 0, removed 0
-pub v007_make_fresh : fresh_call (1 ∷ 2 ∷ 1 ∷ 3 ∷ 4294967295 ∷ 0 ∷ 1 ∷ 8 ∷ 0 ∷ 1 ∷ 0 ∷ 3 ∷ 2 ∷ 1 ∷ replicate 12 0) (99 ∷ 148 ∷ 146 ∷ 254 ∷ replicate 5 255 ++ replicate 87 0 ++ 97 ∷ 98 ∷ 1 ∷ replicate 29 7) ≡ gave (plain (Ok Done) 0) (1 ∷ replicate 25 0) (replicate 128 0)
+pub v007_make_fresh : fresh_call (1 ∷ 2 ∷ 1 ∷ 3 ∷ 4294967295 ∷ 0 ∷ 1 ∷ 8 ∷ 0 ∷ 1 ∷ 0 ∷ 3 ∷ 2 ∷ 1 ∷ replicate 12 0) (99 ∷ 148 ∷ 146 ∷ 254 ∷ replicate 5 255 ++ replicate 87 0 ++ 97 ∷ 98 ∷ 1 ∷ replicate 29 7) ≡ gave (plain Done 0) (1 ∷ replicate 25 0) (replicate 128 0)
 unfolding entries_of decode right_lengths refuse check_lengths fresh_work fresh_call memory_of encode flat call
 v007_make_fresh = refl
 
 -- make_fresh: 0, rounds 0, removed 0
-pub v008_make_fresh : fresh_call (1 ∷ 2 ∷ 0 ∷ 3 ∷ 4294967295 ∷ 1 ∷ 1 ∷ 8 ∷ 1 ∷ 4 ∷ 4294967295 ∷ 0 ∷ 1 ∷ 8 ∷ replicate 12 0) (100 ∷ replicate 8 120 ++ replicate 23 0 ++ 97 ∷ 254 ∷ replicate 6 255 ++ 127 ∷ replicate 55 0 ++ replicate 32 7) ≡ gave (plain (Ok Done) 0) (1 ∷ replicate 25 0) (replicate 128 0)
+pub v008_make_fresh : fresh_call (1 ∷ 2 ∷ 0 ∷ 3 ∷ 4294967295 ∷ 1 ∷ 1 ∷ 8 ∷ 1 ∷ 4 ∷ 4294967295 ∷ 0 ∷ 1 ∷ 8 ∷ replicate 12 0) (100 ∷ replicate 8 120 ++ replicate 23 0 ++ 97 ∷ 254 ∷ replicate 6 255 ++ 127 ∷ replicate 55 0 ++ replicate 32 7) ≡ gave (plain Done 0) (1 ∷ replicate 25 0) (replicate 128 0)
 unfolding entries_of decode right_lengths refuse check_lengths fresh_work fresh_call memory_of encode flat call
 v008_make_fresh = refl
 
 -- make_fresh: 0, rounds 0, removed 0
-pub v009_make_fresh : fresh_call (1 ∷ 2 ∷ 1 ∷ 3 ∷ 4294967295 ∷ 1 ∷ 3 ∷ 8 ∷ 75 ∷ 4 ∷ 0 ∷ 0 ∷ 1 ∷ 8 ∷ replicate 12 0) (99 ∷ replicate 8 120 ++ replicate 23 0 ++ 97 ∷ 98 ∷ 99 ∷ 207 ∷ 251 ∷ replicate 91 0) ≡ gave (plain (Ok Done) 0) (1 ∷ replicate 25 0) (replicate 128 0)
+pub v009_make_fresh : fresh_call (1 ∷ 2 ∷ 1 ∷ 3 ∷ 4294967295 ∷ 1 ∷ 3 ∷ 8 ∷ 75 ∷ 4 ∷ 0 ∷ 0 ∷ 1 ∷ 8 ∷ replicate 12 0) (99 ∷ replicate 8 120 ++ replicate 23 0 ++ 97 ∷ 98 ∷ 99 ∷ 207 ∷ 251 ∷ replicate 91 0) ≡ gave (plain Done 0) (1 ∷ replicate 25 0) (replicate 128 0)
 unfolding entries_of decode right_lengths refuse check_lengths fresh_work fresh_call memory_of encode flat call
 v009_make_fresh = refl
 
 -- make_fresh: 1, rounds 0, removed 0
-pub v010_make_fresh : fresh_call (1 ∷ 1 ∷ 0 ∷ 3 ∷ 0 ∷ 0 ∷ 3 ∷ 8 ∷ replicate 18 0) (97 ∷ 98 ∷ 99 ∷ 202 ∷ 7 ∷ replicate 27 0 ++ replicate 96 7 ++ 0 ∷ []) ≡ gave (plain (Err NotSound) 0) (1 ∷ 1 ∷ 0 ∷ 3 ∷ 0 ∷ 0 ∷ 3 ∷ 8 ∷ replicate 18 0) (97 ∷ 98 ∷ 99 ∷ 202 ∷ 7 ∷ replicate 27 0 ++ replicate 96 7 ++ 0 ∷ [])
+pub v010_make_fresh : fresh_call (1 ∷ 1 ∷ 0 ∷ 3 ∷ 0 ∷ 0 ∷ 3 ∷ 8 ∷ replicate 18 0) (97 ∷ 98 ∷ 99 ∷ 202 ∷ 7 ∷ replicate 27 0 ++ replicate 96 7 ++ 0 ∷ []) ≡ gave (plain NotSound 0) (1 ∷ 1 ∷ 0 ∷ 3 ∷ 0 ∷ 0 ∷ 3 ∷ 8 ∷ replicate 18 0) (97 ∷ 98 ∷ 99 ∷ 202 ∷ 7 ∷ replicate 27 0 ++ replicate 96 7 ++ 0 ∷ [])
 unfolding entries_of decode right_lengths refuse check_lengths fresh_work fresh_call memory_of encode flat call
 v010_make_fresh = refl
 
 -- make_fresh: 0, rounds 0, removed 0
-pub v011_make_fresh : fresh_call (1 ∷ 3 ∷ 0 ∷ 3 ∷ 5 ∷ 2 ∷ 1 ∷ 8 ∷ 93 ∷ 3 ∷ 5 ∷ 0 ∷ 2 ∷ 8 ∷ 0 ∷ 1 ∷ 5 ∷ 1 ∷ 1 ∷ 1 ∷ replicate 6 0) (97 ∷ 98 ∷ 164 ∷ 144 ∷ 215 ∷ 52 ∷ 77 ∷ 199 ∷ 38 ∷ 246 ∷ replicate 22 0 ++ 98 ∷ 1 ∷ replicate 30 0 ++ 99 ∷ 15 ∷ 24 ∷ replicate 61 0) ≡ gave (plain (Ok Done) 0) (1 ∷ replicate 25 0) (replicate 128 0)
+pub v011_make_fresh : fresh_call (1 ∷ 3 ∷ 0 ∷ 3 ∷ 5 ∷ 2 ∷ 1 ∷ 8 ∷ 93 ∷ 3 ∷ 5 ∷ 0 ∷ 2 ∷ 8 ∷ 0 ∷ 1 ∷ 5 ∷ 1 ∷ 1 ∷ 1 ∷ replicate 6 0) (97 ∷ 98 ∷ 164 ∷ 144 ∷ 215 ∷ 52 ∷ 77 ∷ 199 ∷ 38 ∷ 246 ∷ replicate 22 0 ++ 98 ∷ 1 ∷ replicate 30 0 ++ 99 ∷ 15 ∷ 24 ∷ replicate 61 0) ≡ gave (plain Done 0) (1 ∷ replicate 25 0) (replicate 128 0)
 unfolding entries_of decode right_lengths refuse check_lengths fresh_work fresh_call memory_of encode flat call
 v011_make_fresh = refl
 

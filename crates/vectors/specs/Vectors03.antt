@@ -1,8 +1,7 @@
 -- Calls that the second program (second/) made, computed once more by the definitions: the whole answer, all words and all bytes.
 -- Written by `cargo run --release --offline --bin vectors` in sessions/, not by hand.
-use Rattle.std.specs.Prelude.{◌≡◌, refl, true, false, [], ◌∷◌, ◌++◌, replicate, pos, negsuc, Ok, Err, None}
-use Rattle.rules.specs.declared.Reply.TheVariants.{Done}
-use Rattle.rules.specs.declared.Refusal.TheVariants.{NotSound, ClockZero, KeyEmpty, KeyTooLong, KindUnknown, ExpiryTooLate, NoMemory}
+use Rattle.std.specs.Prelude.{◌≡◌, refl, true, false, [], ◌∷◌, ◌++◌, replicate, pos, negsuc, None}
+use Rattle.rules.specs.declared.Outcome.TheVariants.{Done, NotSound, ClockZero, KeyEmpty, KeyTooLong, KindUnknown, ExpiryTooLate, NoMemory}
 use Rattle.rules.specs.declared.Operation.TheVariants.{Set}
 use Rattle.rules.specs.Layout.{encode, decode, flat, entries_of, without, to_front, put, key_of, value_bytes, number_bytes, memory_of, wiped, remove, remove_oldest}
 use Rattle.rules.specs.Time.{dead, expiry_of, too_late}
@@ -185,131 +184,131 @@ unfolding entries_of decode holds held free_run every any right_lengths value_fi
 v141_show = refl
 
 -- set: 0, rounds 0, removed 0
-pub v142_set : store_call Set (1 ∷ replicate 13 0) (replicate 64 0) 82 (100 ∷ []) 1 (pos 1168641184035937621) (replicate 130 120) 18446744073709551533 4294967295 ≡ gave (plain (Ok Done) 0) (1 ∷ 1 ∷ 18446744073709551615 ∷ 1 ∷ 4294967295 ∷ 0 ∷ 1 ∷ 1 ∷ replicate 6 0) (100 ∷ 1 ∷ replicate 62 0)
+pub v142_set : store_call Set (1 ∷ replicate 13 0) (replicate 64 0) 82 (100 ∷ []) 1 (pos 1168641184035937621) (replicate 130 120) 18446744073709551533 4294967295 ≡ gave (plain Done 0) (1 ∷ 1 ∷ 18446744073709551615 ∷ 1 ∷ 4294967295 ∷ 0 ∷ 1 ∷ 1 ∷ replicate 6 0) (100 ∷ 1 ∷ replicate 62 0)
 unfolding entries_of decode holds held free_run every any right_lengths value_fits entry_sound none_shared sound refuse check_sound ◌then◌ check_clock clock_checks check_key key_checks memory_of encode flat call dead same key_of key_is found_from look_up deads without put wiped remove remove_oldest sweep_count sweep after_sweep expiry_of entry_for place_at to_front rewrite_at overwrite_at after gone any_live fit_from first_free run searched is_placed if_room evicted forced_by fit_outcome place_fit placed_by place_anew store_over store_item most_rounds boolean_byte number_bytes value_given item_of check_kind takes_nil check_nil too_late check_lifetime store_checks admits delete_found store_admitted store_found store_work store_call
 v142_set = refl
 
 -- set: 2, rounds 0, removed 0
-pub v143_set : store_call Set (1 ∷ 1 ∷ 150 ∷ 3 ∷ 0 ∷ 0 ∷ 1 ∷ 8 ∷ replicate 18 0) (100 ∷ 245 ∷ 95 ∷ 194 ∷ 168 ∷ 73 ∷ 56 ∷ 85 ∷ 77 ∷ replicate 55 0 ++ replicate 64 7) 0 (97 ∷ []) 2 (negsuc 1837187480588104838) (replicate 40 120) 18446744073709551615 0 ≡ gave (plain (Err ClockZero) 0) (1 ∷ 1 ∷ 150 ∷ 3 ∷ 0 ∷ 0 ∷ 1 ∷ 8 ∷ replicate 18 0) (100 ∷ 245 ∷ 95 ∷ 194 ∷ 168 ∷ 73 ∷ 56 ∷ 85 ∷ 77 ∷ replicate 55 0 ++ replicate 64 7)
+pub v143_set : store_call Set (1 ∷ 1 ∷ 150 ∷ 3 ∷ 0 ∷ 0 ∷ 1 ∷ 8 ∷ replicate 18 0) (100 ∷ 245 ∷ 95 ∷ 194 ∷ 168 ∷ 73 ∷ 56 ∷ 85 ∷ 77 ∷ replicate 55 0 ++ replicate 64 7) 0 (97 ∷ []) 2 (negsuc 1837187480588104838) (replicate 40 120) 18446744073709551615 0 ≡ gave (plain ClockZero 0) (1 ∷ 1 ∷ 150 ∷ 3 ∷ 0 ∷ 0 ∷ 1 ∷ 8 ∷ replicate 18 0) (100 ∷ 245 ∷ 95 ∷ 194 ∷ 168 ∷ 73 ∷ 56 ∷ 85 ∷ 77 ∷ replicate 55 0 ++ replicate 64 7)
 unfolding entries_of decode holds held free_run every any right_lengths value_fits entry_sound none_shared sound refuse check_sound ◌then◌ check_clock clock_checks check_key key_checks memory_of encode flat call dead same key_of key_is found_from look_up deads without put wiped remove remove_oldest sweep_count sweep after_sweep expiry_of entry_for place_at to_front rewrite_at overwrite_at after gone any_live fit_from first_free run searched is_placed if_room evicted forced_by fit_outcome place_fit placed_by place_anew store_over store_item most_rounds boolean_byte number_bytes value_given item_of check_kind takes_nil check_nil too_late check_lifetime store_checks admits delete_found store_admitted store_found store_work store_call
 v143_set = refl
 
 -- set: 4, rounds 0, removed 0
-pub v144_set : store_call Set (1 ∷ 1 ∷ 0 ∷ 3 ∷ 5 ∷ 0 ∷ 1 ∷ 8 ∷ []) (98 ∷ 1 ∷ replicate 30 0) 94 (replicate 65536 107) 4 (negsuc 23458) (120 ∷ []) 30 4294967295 ≡ gave (plain (Err KeyTooLong) 0) (1 ∷ 1 ∷ 0 ∷ 3 ∷ 5 ∷ 0 ∷ 1 ∷ 8 ∷ []) (98 ∷ 1 ∷ replicate 30 0)
+pub v144_set : store_call Set (1 ∷ 1 ∷ 0 ∷ 3 ∷ 5 ∷ 0 ∷ 1 ∷ 8 ∷ []) (98 ∷ 1 ∷ replicate 30 0) 94 (replicate 65536 107) 4 (negsuc 23458) (120 ∷ []) 30 4294967295 ≡ gave (plain KeyTooLong 0) (1 ∷ 1 ∷ 0 ∷ 3 ∷ 5 ∷ 0 ∷ 1 ∷ 8 ∷ []) (98 ∷ 1 ∷ replicate 30 0)
 unfolding entries_of decode holds held free_run every any right_lengths value_fits entry_sound none_shared sound refuse check_sound ◌then◌ check_clock clock_checks check_key key_checks memory_of encode flat call dead same key_of key_is found_from look_up deads without put wiped remove remove_oldest sweep_count sweep after_sweep expiry_of entry_for place_at to_front rewrite_at overwrite_at after gone any_live fit_from first_free run searched is_placed if_room evicted forced_by fit_outcome place_fit placed_by place_anew store_over store_item most_rounds boolean_byte number_bytes value_given item_of check_kind takes_nil check_nil too_late check_lifetime store_checks admits delete_found store_admitted store_found store_work store_call
 v144_set = refl
 
 -- set: 0, rounds 0, removed 1
-pub v145_set : store_call Set (1 ∷ 1 ∷ 1 ∷ 3 ∷ 5 ∷ 0 ∷ 2 ∷ 8 ∷ []) (98 ∷ 97 ∷ 13 ∷ 51 ∷ 235 ∷ 131 ∷ 197 ∷ 45 ∷ 50 ∷ 197 ∷ replicate 22 7) 91 (98 ∷ []) 3 (negsuc 835144126381777092) (replicate 40 120) 30 0 ≡ gave (plain (Ok Done) 1) (1 ∷ 1 ∷ 121 ∷ 3 ∷ 0 ∷ 0 ∷ 1 ∷ 8 ∷ []) (98 ∷ 59 ∷ 159 ∷ 194 ∷ 130 ∷ 215 ∷ 248 ∷ 104 ∷ 244 ∷ replicate 23 0)
+pub v145_set : store_call Set (1 ∷ 1 ∷ 1 ∷ 3 ∷ 5 ∷ 0 ∷ 2 ∷ 8 ∷ []) (98 ∷ 97 ∷ 13 ∷ 51 ∷ 235 ∷ 131 ∷ 197 ∷ 45 ∷ 50 ∷ 197 ∷ replicate 22 7) 91 (98 ∷ []) 3 (negsuc 835144126381777092) (replicate 40 120) 30 0 ≡ gave (plain Done 1) (1 ∷ 1 ∷ 121 ∷ 3 ∷ 0 ∷ 0 ∷ 1 ∷ 8 ∷ []) (98 ∷ 59 ∷ 159 ∷ 194 ∷ 130 ∷ 215 ∷ 248 ∷ 104 ∷ 244 ∷ replicate 23 0)
 unfolding entries_of decode holds held free_run every any right_lengths value_fits entry_sound none_shared sound refuse check_sound ◌then◌ check_clock clock_checks check_key key_checks memory_of encode flat call dead same key_of key_is found_from look_up deads without put wiped remove remove_oldest sweep_count sweep after_sweep expiry_of entry_for place_at to_front rewrite_at overwrite_at after gone any_live fit_from first_free run searched is_placed if_room evicted forced_by fit_outcome place_fit placed_by place_anew store_over store_item most_rounds boolean_byte number_bytes value_given item_of check_kind takes_nil check_nil too_late check_lifetime store_checks admits delete_found store_admitted store_found store_work store_call
 v145_set = refl
 
 -- set: 1, rounds 0, removed 0
-pub v146_set : store_call Set (1 ∷ 1 ∷ 0 ∷ 1 ∷ 4294967295 ∷ 0 ∷ 1 ∷ 18446744073709551615 ∷ replicate 6 0) (99 ∷ 1 ∷ replicate 62 7) 112 (97 ∷ 98 ∷ []) 255 (negsuc 16261) (120 ∷ []) 30 0 ≡ gave (plain (Err NotSound) 0) (1 ∷ 1 ∷ 0 ∷ 1 ∷ 4294967295 ∷ 0 ∷ 1 ∷ 18446744073709551615 ∷ replicate 6 0) (99 ∷ 1 ∷ replicate 62 7)
+pub v146_set : store_call Set (1 ∷ 1 ∷ 0 ∷ 1 ∷ 4294967295 ∷ 0 ∷ 1 ∷ 18446744073709551615 ∷ replicate 6 0) (99 ∷ 1 ∷ replicate 62 7) 112 (97 ∷ 98 ∷ []) 255 (negsuc 16261) (120 ∷ []) 30 0 ≡ gave (plain NotSound 0) (1 ∷ 1 ∷ 0 ∷ 1 ∷ 4294967295 ∷ 0 ∷ 1 ∷ 18446744073709551615 ∷ replicate 6 0) (99 ∷ 1 ∷ replicate 62 7)
 unfolding entries_of decode holds held free_run every any right_lengths value_fits entry_sound none_shared sound refuse check_sound ◌then◌ check_clock clock_checks check_key key_checks memory_of encode flat call dead same key_of key_is found_from look_up deads without put wiped remove remove_oldest sweep_count sweep after_sweep expiry_of entry_for place_at to_front rewrite_at overwrite_at after gone any_live fit_from first_free run searched is_placed if_room evicted forced_by fit_outcome place_fit placed_by place_anew store_over store_item most_rounds boolean_byte number_bytes value_given item_of check_kind takes_nil check_nil too_late check_lifetime store_checks admits delete_found store_admitted store_found store_work store_call
 v146_set = refl
 
 -- set: 1, rounds 0, removed 0
-pub v147_set : store_call Set (1 ∷ 0 ∷ 0 ∷ 0 ∷ 18446744073709551615 ∷ replicate 21 0) (replicate 128 0) 100 [] 0 (negsuc 8522) (replicate 33 120) 18446744073709551515 4294967295 ≡ gave (plain (Err NotSound) 0) (1 ∷ 0 ∷ 0 ∷ 0 ∷ 18446744073709551615 ∷ replicate 21 0) (replicate 128 0)
+pub v147_set : store_call Set (1 ∷ 0 ∷ 0 ∷ 0 ∷ 18446744073709551615 ∷ replicate 21 0) (replicate 128 0) 100 [] 0 (negsuc 8522) (replicate 33 120) 18446744073709551515 4294967295 ≡ gave (plain NotSound 0) (1 ∷ 0 ∷ 0 ∷ 0 ∷ 18446744073709551615 ∷ replicate 21 0) (replicate 128 0)
 unfolding entries_of decode holds held free_run every any right_lengths value_fits entry_sound none_shared sound refuse check_sound ◌then◌ check_clock clock_checks check_key key_checks memory_of encode flat call dead same key_of key_is found_from look_up deads without put wiped remove remove_oldest sweep_count sweep after_sweep expiry_of entry_for place_at to_front rewrite_at overwrite_at after gone any_live fit_from first_free run searched is_placed if_room evicted forced_by fit_outcome place_fit placed_by place_anew store_over store_item most_rounds boolean_byte number_bytes value_given item_of check_kind takes_nil check_nil too_late check_lifetime store_checks admits delete_found store_admitted store_found store_work store_call
 v147_set = refl
 
 -- set: 7, rounds 0, removed 0
-pub v148_set : store_call Set (1 ∷ 2 ∷ 152 ∷ 4 ∷ 5 ∷ 1 ∷ 2 ∷ 31 ∷ 0 ∷ 1 ∷ 5 ∷ 0 ∷ 1 ∷ 1 ∷ replicate 12 0) (97 ∷ 1 ∷ replicate 30 0 ++ 97 ∷ 98 ∷ replicate 31 120 ++ replicate 58 0 ++ 16 ∷ 0 ∷ 0 ∷ 0 ∷ 0 ∷ []) 132 (97 ∷ 98 ∷ []) 4 (negsuc 3490) (replicate 40 120) 18446744073709551615 0 ≡ gave (plain (Err ExpiryTooLate) 0) (1 ∷ 2 ∷ 152 ∷ 4 ∷ 5 ∷ 1 ∷ 2 ∷ 31 ∷ 0 ∷ 1 ∷ 5 ∷ 0 ∷ 1 ∷ 1 ∷ replicate 12 0) (97 ∷ 1 ∷ replicate 30 0 ++ 97 ∷ 98 ∷ replicate 31 120 ++ replicate 58 0 ++ 16 ∷ 0 ∷ 0 ∷ 0 ∷ 0 ∷ [])
+pub v148_set : store_call Set (1 ∷ 2 ∷ 152 ∷ 4 ∷ 5 ∷ 1 ∷ 2 ∷ 31 ∷ 0 ∷ 1 ∷ 5 ∷ 0 ∷ 1 ∷ 1 ∷ replicate 12 0) (97 ∷ 1 ∷ replicate 30 0 ++ 97 ∷ 98 ∷ replicate 31 120 ++ replicate 58 0 ++ 16 ∷ 0 ∷ 0 ∷ 0 ∷ 0 ∷ []) 132 (97 ∷ 98 ∷ []) 4 (negsuc 3490) (replicate 40 120) 18446744073709551615 0 ≡ gave (plain ExpiryTooLate 0) (1 ∷ 2 ∷ 152 ∷ 4 ∷ 5 ∷ 1 ∷ 2 ∷ 31 ∷ 0 ∷ 1 ∷ 5 ∷ 0 ∷ 1 ∷ 1 ∷ replicate 12 0) (97 ∷ 1 ∷ replicate 30 0 ++ 97 ∷ 98 ∷ replicate 31 120 ++ replicate 58 0 ++ 16 ∷ 0 ∷ 0 ∷ 0 ∷ 0 ∷ [])
 unfolding entries_of decode holds held free_run every any right_lengths value_fits entry_sound none_shared sound refuse check_sound ◌then◌ check_clock clock_checks check_key key_checks memory_of encode flat call dead same key_of key_is found_from look_up deads without put wiped remove remove_oldest sweep_count sweep after_sweep expiry_of entry_for place_at to_front rewrite_at overwrite_at after gone any_live fit_from first_free run searched is_placed if_room evicted forced_by fit_outcome place_fit placed_by place_anew store_over store_item most_rounds boolean_byte number_bytes value_given item_of check_kind takes_nil check_nil too_late check_lifetime store_checks admits delete_found store_admitted store_found store_work store_call
 v148_set = refl
 
 -- set: 3, rounds 0, removed 0
-pub v149_set : store_call Set (1 ∷ 3 ∷ 0 ∷ 1 ∷ 4294967295 ∷ 1 ∷ 1 ∷ 1 ∷ 150 ∷ 1 ∷ 0 ∷ 3 ∷ 1 ∷ 1 ∷ 0 ∷ 3 ∷ 4294967295 ∷ 0 ∷ 1 ∷ 8 ∷ replicate 6 0) (100 ∷ 254 ∷ replicate 6 255 ++ 127 ∷ replicate 23 0 ++ 99 ∷ 1 ∷ replicate 62 0 ++ 97 ∷ 1 ∷ replicate 30 0) 100 [] 3 (pos 56404) (replicate 20 120) 5 5 ≡ gave (plain (Err KeyEmpty) 0) (1 ∷ 3 ∷ 0 ∷ 1 ∷ 4294967295 ∷ 1 ∷ 1 ∷ 1 ∷ 150 ∷ 1 ∷ 0 ∷ 3 ∷ 1 ∷ 1 ∷ 0 ∷ 3 ∷ 4294967295 ∷ 0 ∷ 1 ∷ 8 ∷ replicate 6 0) (100 ∷ 254 ∷ replicate 6 255 ++ 127 ∷ replicate 23 0 ++ 99 ∷ 1 ∷ replicate 62 0 ++ 97 ∷ 1 ∷ replicate 30 0)
+pub v149_set : store_call Set (1 ∷ 3 ∷ 0 ∷ 1 ∷ 4294967295 ∷ 1 ∷ 1 ∷ 1 ∷ 150 ∷ 1 ∷ 0 ∷ 3 ∷ 1 ∷ 1 ∷ 0 ∷ 3 ∷ 4294967295 ∷ 0 ∷ 1 ∷ 8 ∷ replicate 6 0) (100 ∷ 254 ∷ replicate 6 255 ++ 127 ∷ replicate 23 0 ++ 99 ∷ 1 ∷ replicate 62 0 ++ 97 ∷ 1 ∷ replicate 30 0) 100 [] 3 (pos 56404) (replicate 20 120) 5 5 ≡ gave (plain KeyEmpty 0) (1 ∷ 3 ∷ 0 ∷ 1 ∷ 4294967295 ∷ 1 ∷ 1 ∷ 1 ∷ 150 ∷ 1 ∷ 0 ∷ 3 ∷ 1 ∷ 1 ∷ 0 ∷ 3 ∷ 4294967295 ∷ 0 ∷ 1 ∷ 8 ∷ replicate 6 0) (100 ∷ 254 ∷ replicate 6 255 ++ 127 ∷ replicate 23 0 ++ 99 ∷ 1 ∷ replicate 62 0 ++ 97 ∷ 1 ∷ replicate 30 0)
 unfolding entries_of decode holds held free_run every any right_lengths value_fits entry_sound none_shared sound refuse check_sound ◌then◌ check_clock clock_checks check_key key_checks memory_of encode flat call dead same key_of key_is found_from look_up deads without put wiped remove remove_oldest sweep_count sweep after_sweep expiry_of entry_for place_at to_front rewrite_at overwrite_at after gone any_live fit_from first_free run searched is_placed if_room evicted forced_by fit_outcome place_fit placed_by place_anew store_over store_item most_rounds boolean_byte number_bytes value_given item_of check_kind takes_nil check_nil too_late check_lifetime store_checks admits delete_found store_admitted store_found store_work store_call
 v149_set = refl
 
 -- set: 0, rounds 0, removed 1
-pub v150_set : store_call Set (1 ∷ 1 ∷ 112 ∷ 3 ∷ 0 ∷ 0 ∷ 1 ∷ 8 ∷ []) (97 ∷ 203 ∷ 59 ∷ replicate 6 255 ++ replicate 23 0) 117 (97 ∷ 98 ∷ []) 1 (pos 36492) (replicate 40 120) 0 5 ≡ gave (plain (Ok Done) 1) (1 ∷ 1 ∷ 0 ∷ 1 ∷ 5 ∷ 0 ∷ 2 ∷ 1 ∷ []) (97 ∷ 98 ∷ 1 ∷ replicate 29 0)
+pub v150_set : store_call Set (1 ∷ 1 ∷ 112 ∷ 3 ∷ 0 ∷ 0 ∷ 1 ∷ 8 ∷ []) (97 ∷ 203 ∷ 59 ∷ replicate 6 255 ++ replicate 23 0) 117 (97 ∷ 98 ∷ []) 1 (pos 36492) (replicate 40 120) 0 5 ≡ gave (plain Done 1) (1 ∷ 1 ∷ 0 ∷ 1 ∷ 5 ∷ 0 ∷ 2 ∷ 1 ∷ []) (97 ∷ 98 ∷ 1 ∷ replicate 29 0)
 unfolding entries_of decode holds held free_run every any right_lengths value_fits entry_sound none_shared sound refuse check_sound ◌then◌ check_clock clock_checks check_key key_checks memory_of encode flat call dead same key_of key_is found_from look_up deads without put wiped remove remove_oldest sweep_count sweep after_sweep expiry_of entry_for place_at to_front rewrite_at overwrite_at after gone any_live fit_from first_free run searched is_placed if_room evicted forced_by fit_outcome place_fit placed_by place_anew store_over store_item most_rounds boolean_byte number_bytes value_given item_of check_kind takes_nil check_nil too_late check_lifetime store_checks admits delete_found store_admitted store_found store_work store_call
 v150_set = refl
 
 -- set: 5, rounds 0, removed 0
-pub v151_set : store_call Set (1 ∷ 3 ∷ 125 ∷ 1 ∷ 5 ∷ 3 ∷ 1 ∷ 1 ∷ 1 ∷ 3 ∷ 5 ∷ 1 ∷ 40 ∷ 8 ∷ 101 ∷ 3 ∷ 5 ∷ 0 ∷ 3 ∷ 8 ∷ replicate 6 0) (97 ∷ 98 ∷ 99 ∷ replicate 8 255 ++ replicate 21 7 ++ replicate 40 107 ++ 254 ∷ replicate 6 255 ++ 127 ∷ replicate 16 7 ++ 100 ∷ 1 ∷ replicate 30 7) 95 (97 ∷ 98 ∷ []) 2 (pos 20558) (120 ∷ []) 5 0 ≡ gave (plain (Err KindUnknown) 0) (1 ∷ 3 ∷ 125 ∷ 1 ∷ 5 ∷ 3 ∷ 1 ∷ 1 ∷ 1 ∷ 3 ∷ 5 ∷ 1 ∷ 40 ∷ 8 ∷ 101 ∷ 3 ∷ 5 ∷ 0 ∷ 3 ∷ 8 ∷ replicate 6 0) (97 ∷ 98 ∷ 99 ∷ replicate 8 255 ++ replicate 21 7 ++ replicate 40 107 ++ 254 ∷ replicate 6 255 ++ 127 ∷ replicate 16 7 ++ 100 ∷ 1 ∷ replicate 30 7)
+pub v151_set : store_call Set (1 ∷ 3 ∷ 125 ∷ 1 ∷ 5 ∷ 3 ∷ 1 ∷ 1 ∷ 1 ∷ 3 ∷ 5 ∷ 1 ∷ 40 ∷ 8 ∷ 101 ∷ 3 ∷ 5 ∷ 0 ∷ 3 ∷ 8 ∷ replicate 6 0) (97 ∷ 98 ∷ 99 ∷ replicate 8 255 ++ replicate 21 7 ++ replicate 40 107 ++ 254 ∷ replicate 6 255 ++ 127 ∷ replicate 16 7 ++ 100 ∷ 1 ∷ replicate 30 7) 95 (97 ∷ 98 ∷ []) 2 (pos 20558) (120 ∷ []) 5 0 ≡ gave (plain KindUnknown 0) (1 ∷ 3 ∷ 125 ∷ 1 ∷ 5 ∷ 3 ∷ 1 ∷ 1 ∷ 1 ∷ 3 ∷ 5 ∷ 1 ∷ 40 ∷ 8 ∷ 101 ∷ 3 ∷ 5 ∷ 0 ∷ 3 ∷ 8 ∷ replicate 6 0) (97 ∷ 98 ∷ 99 ∷ replicate 8 255 ++ replicate 21 7 ++ replicate 40 107 ++ 254 ∷ replicate 6 255 ++ 127 ∷ replicate 16 7 ++ 100 ∷ 1 ∷ replicate 30 7)
 unfolding entries_of decode holds held free_run every any right_lengths value_fits entry_sound none_shared sound refuse check_sound ◌then◌ check_clock clock_checks check_key key_checks memory_of encode flat call dead same key_of key_is found_from look_up deads without put wiped remove remove_oldest sweep_count sweep after_sweep expiry_of entry_for place_at to_front rewrite_at overwrite_at after gone any_live fit_from first_free run searched is_placed if_room evicted forced_by fit_outcome place_fit placed_by place_anew store_over store_item most_rounds boolean_byte number_bytes value_given item_of check_kind takes_nil check_nil too_late check_lifetime store_checks admits delete_found store_admitted store_found store_work store_call
 v151_set = refl
 
 -- set: 0, rounds 1, removed 1
-pub v152_set : store_call Set (1 ∷ 1 ∷ 0 ∷ 4 ∷ 4294967295 ∷ 0 ∷ 1 ∷ 100 ∷ replicate 18 0) (97 ∷ replicate 100 120 ++ replicate 27 0) 105 (98 ∷ 97 ∷ []) 4 (pos 1) (replicate 31 120) 0 4294967295 ≡ gave (record { rounds = 1; removed = 1; forced = true; stale = false; outcome = (Ok Done) }) (1 ∷ 1 ∷ 0 ∷ 4 ∷ 4294967295 ∷ 0 ∷ 2 ∷ 31 ∷ replicate 18 0) (98 ∷ 97 ∷ replicate 31 120 ++ replicate 95 0)
+pub v152_set : store_call Set (1 ∷ 1 ∷ 0 ∷ 4 ∷ 4294967295 ∷ 0 ∷ 1 ∷ 100 ∷ replicate 18 0) (97 ∷ replicate 100 120 ++ replicate 27 0) 105 (98 ∷ 97 ∷ []) 4 (pos 1) (replicate 31 120) 0 4294967295 ≡ gave (record { rounds = 1; removed = 1; forced = true; stale = false; outcome = Done }) (1 ∷ 1 ∷ 0 ∷ 4 ∷ 4294967295 ∷ 0 ∷ 2 ∷ 31 ∷ replicate 18 0) (98 ∷ 97 ∷ replicate 31 120 ++ replicate 95 0)
 unfolding entries_of decode holds held free_run every any right_lengths value_fits entry_sound none_shared sound refuse check_sound ◌then◌ check_clock clock_checks check_key key_checks memory_of encode flat call dead same key_of key_is found_from look_up deads without put wiped remove remove_oldest sweep_count sweep after_sweep expiry_of entry_for place_at to_front rewrite_at overwrite_at after gone any_live fit_from first_free run searched is_placed if_room evicted forced_by fit_outcome place_fit placed_by place_anew store_over store_item most_rounds boolean_byte number_bytes value_given item_of check_kind takes_nil check_nil too_late check_lifetime store_checks admits delete_found store_admitted store_found store_work store_call
 v152_set = refl
 
 -- set: 0, rounds 0, removed 0
-pub v153_set : store_call Set (1 ∷ replicate 7 0) (replicate 32 7) 91 (98 ∷ []) 4 (negsuc 9223372036854775807) (replicate 8 120) 5 0 ≡ gave (plain (Ok Done) 0) (1 ∷ 1 ∷ 96 ∷ 4 ∷ 0 ∷ 0 ∷ 1 ∷ 8 ∷ []) (98 ∷ replicate 8 120 ++ replicate 23 7)
+pub v153_set : store_call Set (1 ∷ replicate 7 0) (replicate 32 7) 91 (98 ∷ []) 4 (negsuc 9223372036854775807) (replicate 8 120) 5 0 ≡ gave (plain Done 0) (1 ∷ 1 ∷ 96 ∷ 4 ∷ 0 ∷ 0 ∷ 1 ∷ 8 ∷ []) (98 ∷ replicate 8 120 ++ replicate 23 7)
 unfolding entries_of decode holds held free_run every any right_lengths value_fits entry_sound none_shared sound refuse check_sound ◌then◌ check_clock clock_checks check_key key_checks memory_of encode flat call dead same key_of key_is found_from look_up deads without put wiped remove remove_oldest sweep_count sweep after_sweep expiry_of entry_for place_at to_front rewrite_at overwrite_at after gone any_live fit_from first_free run searched is_placed if_room evicted forced_by fit_outcome place_fit placed_by place_anew store_over store_item most_rounds boolean_byte number_bytes value_given item_of check_kind takes_nil check_nil too_late check_lifetime store_checks admits delete_found store_admitted store_found store_work store_call
 v153_set = refl
 
 -- set: 0, rounds 1, removed 1
-pub v154_set : store_call Set (1 ∷ 2 ∷ 0 ∷ 1 ∷ 4294967295 ∷ 1 ∷ 2 ∷ 1 ∷ 0 ∷ 4 ∷ 4294967295 ∷ 0 ∷ 2 ∷ 1 ∷ []) (98 ∷ 97 ∷ 120 ∷ replicate 29 0 ++ 97 ∷ 98 ∷ 1 ∷ replicate 29 0) 95 (100 ∷ []) 3 (pos 9223372036854775807) (replicate 63 120) 30 0 ≡ gave (record { rounds = 1; removed = 1; forced = true; stale = false; outcome = (Ok Done) }) (1 ∷ 2 ∷ 125 ∷ 3 ∷ 0 ∷ 0 ∷ 1 ∷ 8 ∷ 0 ∷ 1 ∷ 4294967295 ∷ 1 ∷ 2 ∷ 1 ∷ []) (100 ∷ replicate 7 255 ++ 127 ∷ replicate 23 0 ++ 97 ∷ 98 ∷ 1 ∷ replicate 29 0)
+pub v154_set : store_call Set (1 ∷ 2 ∷ 0 ∷ 1 ∷ 4294967295 ∷ 1 ∷ 2 ∷ 1 ∷ 0 ∷ 4 ∷ 4294967295 ∷ 0 ∷ 2 ∷ 1 ∷ []) (98 ∷ 97 ∷ 120 ∷ replicate 29 0 ++ 97 ∷ 98 ∷ 1 ∷ replicate 29 0) 95 (100 ∷ []) 3 (pos 9223372036854775807) (replicate 63 120) 30 0 ≡ gave (record { rounds = 1; removed = 1; forced = true; stale = false; outcome = Done }) (1 ∷ 2 ∷ 125 ∷ 3 ∷ 0 ∷ 0 ∷ 1 ∷ 8 ∷ 0 ∷ 1 ∷ 4294967295 ∷ 1 ∷ 2 ∷ 1 ∷ []) (100 ∷ replicate 7 255 ++ 127 ∷ replicate 23 0 ++ 97 ∷ 98 ∷ 1 ∷ replicate 29 0)
 unfolding entries_of decode holds held free_run every any right_lengths value_fits entry_sound none_shared sound refuse check_sound ◌then◌ check_clock clock_checks check_key key_checks memory_of encode flat call dead same key_of key_is found_from look_up deads without put wiped remove remove_oldest sweep_count sweep after_sweep expiry_of entry_for place_at to_front rewrite_at overwrite_at after gone any_live fit_from first_free run searched is_placed if_room evicted forced_by fit_outcome place_fit placed_by place_anew store_over store_item most_rounds boolean_byte number_bytes value_given item_of check_kind takes_nil check_nil too_late check_lifetime store_checks admits delete_found store_admitted store_found store_work store_call
 v154_set = refl
 
 -- set: 0, rounds 0, removed 1
-pub v155_set : store_call Set (1 ∷ 1 ∷ 108 ∷ 4 ∷ 0 ∷ 0 ∷ 2 ∷ 63 ∷ replicate 18 0) (98 ∷ 97 ∷ replicate 63 120 ++ replicate 63 0) 128 (97 ∷ 98 ∷ []) 0 (pos 77998) (replicate 60 120) 0 5 ≡ gave (plain (Ok Done) 1) (1 ∷ replicate 25 0) (replicate 128 0)
+pub v155_set : store_call Set (1 ∷ 1 ∷ 108 ∷ 4 ∷ 0 ∷ 0 ∷ 2 ∷ 63 ∷ replicate 18 0) (98 ∷ 97 ∷ replicate 63 120 ++ replicate 63 0) 128 (97 ∷ 98 ∷ []) 0 (pos 77998) (replicate 60 120) 0 5 ≡ gave (plain Done 1) (1 ∷ replicate 25 0) (replicate 128 0)
 unfolding entries_of decode holds held free_run every any right_lengths value_fits entry_sound none_shared sound refuse check_sound ◌then◌ check_clock clock_checks check_key key_checks memory_of encode flat call dead same key_of key_is found_from look_up deads without put wiped remove remove_oldest sweep_count sweep after_sweep expiry_of entry_for place_at to_front rewrite_at overwrite_at after gone any_live fit_from first_free run searched is_placed if_room evicted forced_by fit_outcome place_fit placed_by place_anew store_over store_item most_rounds boolean_byte number_bytes value_given item_of check_kind takes_nil check_nil too_late check_lifetime store_checks admits delete_found store_admitted store_found store_work store_call
 v155_set = refl
 
 -- set: 0, rounds 0, removed 0
-pub v156_set : store_call Set (1 ∷ 1 ∷ 185 ∷ 4 ∷ 0 ∷ 0 ∷ 1 ∷ 1 ∷ replicate 18 0) (100 ∷ 120 ∷ replicate 30 0 ++ replicate 96 7) 135 (100 ∷ []) 4 (pos 0) [] 0 0 ≡ gave (plain (Ok Done) 0) (1 ∷ 1 ∷ 0 ∷ 4 ∷ 0 ∷ 0 ∷ 1 ∷ replicate 19 0) (100 ∷ replicate 31 0 ++ replicate 96 7)
+pub v156_set : store_call Set (1 ∷ 1 ∷ 185 ∷ 4 ∷ 0 ∷ 0 ∷ 1 ∷ 1 ∷ replicate 18 0) (100 ∷ 120 ∷ replicate 30 0 ++ replicate 96 7) 135 (100 ∷ []) 4 (pos 0) [] 0 0 ≡ gave (plain Done 0) (1 ∷ 1 ∷ 0 ∷ 4 ∷ 0 ∷ 0 ∷ 1 ∷ replicate 19 0) (100 ∷ replicate 31 0 ++ replicate 96 7)
 unfolding entries_of decode holds held free_run every any right_lengths value_fits entry_sound none_shared sound refuse check_sound ◌then◌ check_clock clock_checks check_key key_checks memory_of encode flat call dead same key_of key_is found_from look_up deads without put wiped remove remove_oldest sweep_count sweep after_sweep expiry_of entry_for place_at to_front rewrite_at overwrite_at after gone any_live fit_from first_free run searched is_placed if_room evicted forced_by fit_outcome place_fit placed_by place_anew store_over store_item most_rounds boolean_byte number_bytes value_given item_of check_kind takes_nil check_nil too_late check_lifetime store_checks admits delete_found store_admitted store_found store_work store_call
 v156_set = refl
 
 -- set: 0, rounds 2, removed 2
-pub v157_set : store_call Set (1 ∷ 2 ∷ 0 ∷ 4 ∷ 0 ∷ 1 ∷ 3 ∷ 8 ∷ 0 ∷ 1 ∷ 4294967295 ∷ 0 ∷ 1 ∷ 1 ∷ replicate 12 0) (100 ∷ 1 ∷ replicate 30 0 ++ 97 ∷ 98 ∷ 99 ∷ replicate 8 120 ++ replicate 85 0) 108 (replicate 40 107) 4 (negsuc 70633) (replicate 33 120) 5 0 ≡ gave (record { rounds = 2; removed = 2; forced = true; stale = false; outcome = (Ok Done) }) (1 ∷ 1 ∷ 113 ∷ 4 ∷ 0 ∷ 0 ∷ 40 ∷ 33 ∷ replicate 18 0) (replicate 40 107 ++ replicate 33 120 ++ replicate 55 0)
+pub v157_set : store_call Set (1 ∷ 2 ∷ 0 ∷ 4 ∷ 0 ∷ 1 ∷ 3 ∷ 8 ∷ 0 ∷ 1 ∷ 4294967295 ∷ 0 ∷ 1 ∷ 1 ∷ replicate 12 0) (100 ∷ 1 ∷ replicate 30 0 ++ 97 ∷ 98 ∷ 99 ∷ replicate 8 120 ++ replicate 85 0) 108 (replicate 40 107) 4 (negsuc 70633) (replicate 33 120) 5 0 ≡ gave (record { rounds = 2; removed = 2; forced = true; stale = false; outcome = Done }) (1 ∷ 1 ∷ 113 ∷ 4 ∷ 0 ∷ 0 ∷ 40 ∷ 33 ∷ replicate 18 0) (replicate 40 107 ++ replicate 33 120 ++ replicate 55 0)
 unfolding entries_of decode holds held free_run every any right_lengths value_fits entry_sound none_shared sound refuse check_sound ◌then◌ check_clock clock_checks check_key key_checks memory_of encode flat call dead same key_of key_is found_from look_up deads without put wiped remove remove_oldest sweep_count sweep after_sweep expiry_of entry_for place_at to_front rewrite_at overwrite_at after gone any_live fit_from first_free run searched is_placed if_room evicted forced_by fit_outcome place_fit placed_by place_anew store_over store_item most_rounds boolean_byte number_bytes value_given item_of check_kind takes_nil check_nil too_late check_lifetime store_checks admits delete_found store_admitted store_found store_work store_call
 v157_set = refl
 
 -- set: 0, rounds 0, removed 0
-pub v158_set : store_call Set (1 ∷ 1 ∷ 0 ∷ 3 ∷ 5 ∷ 0 ∷ 1 ∷ 8 ∷ replicate 6 0) (100 ∷ 108 ∷ 6 ∷ 66 ∷ 83 ∷ 229 ∷ 250 ∷ 145 ∷ 219 ∷ replicate 55 0) 123 (100 ∷ []) 4 (pos 9223372036854775807) (replicate 8 120) 5 5 ≡ gave (plain (Ok Done) 0) (1 ∷ 1 ∷ 128 ∷ 4 ∷ 5 ∷ 0 ∷ 1 ∷ 8 ∷ replicate 6 0) (100 ∷ replicate 8 120 ++ replicate 55 0)
+pub v158_set : store_call Set (1 ∷ 1 ∷ 0 ∷ 3 ∷ 5 ∷ 0 ∷ 1 ∷ 8 ∷ replicate 6 0) (100 ∷ 108 ∷ 6 ∷ 66 ∷ 83 ∷ 229 ∷ 250 ∷ 145 ∷ 219 ∷ replicate 55 0) 123 (100 ∷ []) 4 (pos 9223372036854775807) (replicate 8 120) 5 5 ≡ gave (plain Done 0) (1 ∷ 1 ∷ 128 ∷ 4 ∷ 5 ∷ 0 ∷ 1 ∷ 8 ∷ replicate 6 0) (100 ∷ replicate 8 120 ++ replicate 55 0)
 unfolding entries_of decode holds held free_run every any right_lengths value_fits entry_sound none_shared sound refuse check_sound ◌then◌ check_clock clock_checks check_key key_checks memory_of encode flat call dead same key_of key_is found_from look_up deads without put wiped remove remove_oldest sweep_count sweep after_sweep expiry_of entry_for place_at to_front rewrite_at overwrite_at after gone any_live fit_from first_free run searched is_placed if_room evicted forced_by fit_outcome place_fit placed_by place_anew store_over store_item most_rounds boolean_byte number_bytes value_given item_of check_kind takes_nil check_nil too_late check_lifetime store_checks admits delete_found store_admitted store_found store_work store_call
 v158_set = refl
 
 -- set: 12, rounds 0, removed 1
-pub v159_set : store_call Set (1 ∷ 1 ∷ 119 ∷ 1 ∷ 5 ∷ 0 ∷ 3 ∷ 1 ∷ []) (97 ∷ 98 ∷ 99 ∷ 1 ∷ replicate 28 0) 119 (97 ∷ 98 ∷ []) 4 (pos 3138735843458909093) (replicate 31 120) 30 0 ≡ gave (plain (Err NoMemory) 1) (1 ∷ replicate 7 0) (replicate 32 0)
+pub v159_set : store_call Set (1 ∷ 1 ∷ 119 ∷ 1 ∷ 5 ∷ 0 ∷ 3 ∷ 1 ∷ []) (97 ∷ 98 ∷ 99 ∷ 1 ∷ replicate 28 0) 119 (97 ∷ 98 ∷ []) 4 (pos 3138735843458909093) (replicate 31 120) 30 0 ≡ gave (plain NoMemory 1) (1 ∷ replicate 7 0) (replicate 32 0)
 unfolding entries_of decode holds held free_run every any right_lengths value_fits entry_sound none_shared sound refuse check_sound ◌then◌ check_clock clock_checks check_key key_checks memory_of encode flat call dead same key_of key_is found_from look_up deads without put wiped remove remove_oldest sweep_count sweep after_sweep expiry_of entry_for place_at to_front rewrite_at overwrite_at after gone any_live fit_from first_free run searched is_placed if_room evicted forced_by fit_outcome place_fit placed_by place_anew store_over store_item most_rounds boolean_byte number_bytes value_given item_of check_kind takes_nil check_nil too_late check_lifetime store_checks admits delete_found store_admitted store_found store_work store_call
 v159_set = refl
 
 -- set: 12, rounds 0, removed 0
-pub v160_set : store_call Set (1 ∷ replicate 7 0) (replicate 32 0) 95 (99 ∷ []) 4 (pos 86135) (replicate 130 120) 0 0 ≡ gave (plain (Err NoMemory) 0) (1 ∷ replicate 7 0) (replicate 32 0)
+pub v160_set : store_call Set (1 ∷ replicate 7 0) (replicate 32 0) 95 (99 ∷ []) 4 (pos 86135) (replicate 130 120) 0 0 ≡ gave (plain NoMemory 0) (1 ∷ replicate 7 0) (replicate 32 0)
 unfolding entries_of decode holds held free_run every any right_lengths value_fits entry_sound none_shared sound refuse check_sound ◌then◌ check_clock clock_checks check_key key_checks memory_of encode flat call dead same key_of key_is found_from look_up deads without put wiped remove remove_oldest sweep_count sweep after_sweep expiry_of entry_for place_at to_front rewrite_at overwrite_at after gone any_live fit_from first_free run searched is_placed if_room evicted forced_by fit_outcome place_fit placed_by place_anew store_over store_item most_rounds boolean_byte number_bytes value_given item_of check_kind takes_nil check_nil too_late check_lifetime store_checks admits delete_found store_admitted store_found store_work store_call
 v160_set = refl
 
 -- set: 0, rounds 0, removed 1
-pub v161_set : store_call Set (1 ∷ 1 ∷ 118 ∷ 4 ∷ 0 ∷ 0 ∷ 3 ∷ 60 ∷ replicate 6 0) (97 ∷ 98 ∷ 99 ∷ replicate 60 120 ++ 7 ∷ []) 140 (97 ∷ 98 ∷ 99 ∷ []) 1 (pos 74287) (replicate 31 120) 30 4294967295 ≡ gave (plain (Ok Done) 1) (1 ∷ 1 ∷ 170 ∷ 1 ∷ 4294967295 ∷ 0 ∷ 3 ∷ 1 ∷ replicate 6 0) (97 ∷ 98 ∷ 99 ∷ 1 ∷ replicate 60 0)
+pub v161_set : store_call Set (1 ∷ 1 ∷ 118 ∷ 4 ∷ 0 ∷ 0 ∷ 3 ∷ 60 ∷ replicate 6 0) (97 ∷ 98 ∷ 99 ∷ replicate 60 120 ++ 7 ∷ []) 140 (97 ∷ 98 ∷ 99 ∷ []) 1 (pos 74287) (replicate 31 120) 30 4294967295 ≡ gave (plain Done 1) (1 ∷ 1 ∷ 170 ∷ 1 ∷ 4294967295 ∷ 0 ∷ 3 ∷ 1 ∷ replicate 6 0) (97 ∷ 98 ∷ 99 ∷ 1 ∷ replicate 60 0)
 unfolding entries_of decode holds held free_run every any right_lengths value_fits entry_sound none_shared sound refuse check_sound ◌then◌ check_clock clock_checks check_key key_checks memory_of encode flat call dead same key_of key_is found_from look_up deads without put wiped remove remove_oldest sweep_count sweep after_sweep expiry_of entry_for place_at to_front rewrite_at overwrite_at after gone any_live fit_from first_free run searched is_placed if_room evicted forced_by fit_outcome place_fit placed_by place_anew store_over store_item most_rounds boolean_byte number_bytes value_given item_of check_kind takes_nil check_nil too_late check_lifetime store_checks admits delete_found store_admitted store_found store_work store_call
 v161_set = refl
 
 -- set: 12, rounds 0, removed 0
-pub v162_set : store_call Set (1 ∷ 1 ∷ 0 ∷ 4 ∷ 5 ∷ 0 ∷ 1 ∷ 8 ∷ []) (100 ∷ replicate 8 120 ++ replicate 23 0) 109 (100 ∷ []) 4 (negsuc 53655) (replicate 60 120) 30 0 ≡ gave (plain (Err NoMemory) 0) (1 ∷ replicate 7 0) (replicate 32 0)
+pub v162_set : store_call Set (1 ∷ 1 ∷ 0 ∷ 4 ∷ 5 ∷ 0 ∷ 1 ∷ 8 ∷ []) (100 ∷ replicate 8 120 ++ replicate 23 0) 109 (100 ∷ []) 4 (negsuc 53655) (replicate 60 120) 30 0 ≡ gave (plain NoMemory 0) (1 ∷ replicate 7 0) (replicate 32 0)
 unfolding entries_of decode holds held free_run every any right_lengths value_fits entry_sound none_shared sound refuse check_sound ◌then◌ check_clock clock_checks check_key key_checks memory_of encode flat call dead same key_of key_is found_from look_up deads without put wiped remove remove_oldest sweep_count sweep after_sweep expiry_of entry_for place_at to_front rewrite_at overwrite_at after gone any_live fit_from first_free run searched is_placed if_room evicted forced_by fit_outcome place_fit placed_by place_anew store_over store_item most_rounds boolean_byte number_bytes value_given item_of check_kind takes_nil check_nil too_late check_lifetime store_checks admits delete_found store_admitted store_found store_work store_call
 v162_set = refl
 
 -- set: 12, rounds 0, removed 1
-pub v163_set : store_call Set (1 ∷ 2 ∷ 165 ∷ 3 ∷ 4294967295 ∷ 0 ∷ 3 ∷ 8 ∷ 133 ∷ 1 ∷ 0 ∷ 1 ∷ 2 ∷ 1 ∷ []) (97 ∷ 98 ∷ 99 ∷ 229 ∷ 108 ∷ 1 ∷ replicate 5 0 ++ replicate 21 7 ++ 98 ∷ 97 ∷ 1 ∷ replicate 29 7) 135 (replicate 40 107) 4 (negsuc 61029) (replicate 60 120) 0 5 ≡ gave (plain (Err NoMemory) 1) (1 ∷ 1 ∷ 165 ∷ 3 ∷ 4294967295 ∷ 0 ∷ 3 ∷ 8 ∷ replicate 6 0) (97 ∷ 98 ∷ 99 ∷ 229 ∷ 108 ∷ 1 ∷ replicate 5 0 ++ replicate 21 7 ++ replicate 32 0)
+pub v163_set : store_call Set (1 ∷ 2 ∷ 165 ∷ 3 ∷ 4294967295 ∷ 0 ∷ 3 ∷ 8 ∷ 133 ∷ 1 ∷ 0 ∷ 1 ∷ 2 ∷ 1 ∷ []) (97 ∷ 98 ∷ 99 ∷ 229 ∷ 108 ∷ 1 ∷ replicate 5 0 ++ replicate 21 7 ++ 98 ∷ 97 ∷ 1 ∷ replicate 29 7) 135 (replicate 40 107) 4 (negsuc 61029) (replicate 60 120) 0 5 ≡ gave (plain NoMemory 1) (1 ∷ 1 ∷ 165 ∷ 3 ∷ 4294967295 ∷ 0 ∷ 3 ∷ 8 ∷ replicate 6 0) (97 ∷ 98 ∷ 99 ∷ 229 ∷ 108 ∷ 1 ∷ replicate 5 0 ++ replicate 21 7 ++ replicate 32 0)
 unfolding entries_of decode holds held free_run every any right_lengths value_fits entry_sound none_shared sound refuse check_sound ◌then◌ check_clock clock_checks check_key key_checks memory_of encode flat call dead same key_of key_is found_from look_up deads without put wiped remove remove_oldest sweep_count sweep after_sweep expiry_of entry_for place_at to_front rewrite_at overwrite_at after gone any_live fit_from first_free run searched is_placed if_room evicted forced_by fit_outcome place_fit placed_by place_anew store_over store_item most_rounds boolean_byte number_bytes value_given item_of check_kind takes_nil check_nil too_late check_lifetime store_checks admits delete_found store_admitted store_found store_work store_call
 v163_set = refl
 
 -- set: 0, rounds 1, removed 2
-pub v164_set : store_call Set (1 ∷ 2 ∷ 109 ∷ 3 ∷ 4294967295 ∷ 2 ∷ 2 ∷ 8 ∷ 0 ∷ 4 ∷ 4294967295 ∷ 0 ∷ 3 ∷ 33 ∷ replicate 12 0) (97 ∷ 98 ∷ 99 ∷ replicate 33 120 ++ replicate 28 7 ++ 97 ∷ 98 ∷ 84 ∷ 142 ∷ replicate 6 255 ++ replicate 54 7) 109 (100 ∷ []) 4 (negsuc 4428522000033498858) (replicate 100 120) 0 5 ≡ gave (record { rounds = 1; removed = 2; forced = true; stale = false; outcome = (Ok Done) }) (1 ∷ 1 ∷ 0 ∷ 4 ∷ 5 ∷ 0 ∷ 1 ∷ 100 ∷ replicate 18 0) (100 ∷ replicate 100 120 ++ replicate 27 7)
+pub v164_set : store_call Set (1 ∷ 2 ∷ 109 ∷ 3 ∷ 4294967295 ∷ 2 ∷ 2 ∷ 8 ∷ 0 ∷ 4 ∷ 4294967295 ∷ 0 ∷ 3 ∷ 33 ∷ replicate 12 0) (97 ∷ 98 ∷ 99 ∷ replicate 33 120 ++ replicate 28 7 ++ 97 ∷ 98 ∷ 84 ∷ 142 ∷ replicate 6 255 ++ replicate 54 7) 109 (100 ∷ []) 4 (negsuc 4428522000033498858) (replicate 100 120) 0 5 ≡ gave (record { rounds = 1; removed = 2; forced = true; stale = false; outcome = Done }) (1 ∷ 1 ∷ 0 ∷ 4 ∷ 5 ∷ 0 ∷ 1 ∷ 100 ∷ replicate 18 0) (100 ∷ replicate 100 120 ++ replicate 27 7)
 unfolding entries_of decode holds held free_run every any right_lengths value_fits entry_sound none_shared sound refuse check_sound ◌then◌ check_clock clock_checks check_key key_checks memory_of encode flat call dead same key_of key_is found_from look_up deads without put wiped remove remove_oldest sweep_count sweep after_sweep expiry_of entry_for place_at to_front rewrite_at overwrite_at after gone any_live fit_from first_free run searched is_placed if_room evicted forced_by fit_outcome place_fit placed_by place_anew store_over store_item most_rounds boolean_byte number_bytes value_given item_of check_kind takes_nil check_nil too_late check_lifetime store_checks admits delete_found store_admitted store_found store_work store_call
 v164_set = refl
 
 -- set: 12, rounds 0, removed 0
-pub v165_set : store_call Set (1 ∷ 1 ∷ 146 ∷ 4 ∷ 4294967295 ∷ 0 ∷ 1 ∷ 0 ∷ []) (98 ∷ replicate 31 0) 106 (replicate 40 107) 3 (pos 9223372036854775807) (replicate 100 120) 0 4294967295 ≡ gave (plain (Err NoMemory) 0) (1 ∷ 1 ∷ 146 ∷ 4 ∷ 4294967295 ∷ 0 ∷ 1 ∷ 0 ∷ []) (98 ∷ replicate 31 0)
+pub v165_set : store_call Set (1 ∷ 1 ∷ 146 ∷ 4 ∷ 4294967295 ∷ 0 ∷ 1 ∷ 0 ∷ []) (98 ∷ replicate 31 0) 106 (replicate 40 107) 3 (pos 9223372036854775807) (replicate 100 120) 0 4294967295 ≡ gave (plain NoMemory 0) (1 ∷ 1 ∷ 146 ∷ 4 ∷ 4294967295 ∷ 0 ∷ 1 ∷ 0 ∷ []) (98 ∷ replicate 31 0)
 unfolding entries_of decode holds held free_run every any right_lengths value_fits entry_sound none_shared sound refuse check_sound ◌then◌ check_clock clock_checks check_key key_checks memory_of encode flat call dead same key_of key_is found_from look_up deads without put wiped remove remove_oldest sweep_count sweep after_sweep expiry_of entry_for place_at to_front rewrite_at overwrite_at after gone any_live fit_from first_free run searched is_placed if_room evicted forced_by fit_outcome place_fit placed_by place_anew store_over store_item most_rounds boolean_byte number_bytes value_given item_of check_kind takes_nil check_nil too_late check_lifetime store_checks admits delete_found store_admitted store_found store_work store_call
 v165_set = refl
 
 -- set: 0, rounds 0, removed 2
-pub v166_set : store_call Set (1 ∷ 3 ∷ 0 ∷ 3 ∷ 4294967295 ∷ 1 ∷ 1 ∷ 8 ∷ 120 ∷ 1 ∷ 5 ∷ 2 ∷ 1 ∷ 1 ∷ 98 ∷ 3 ∷ 5 ∷ 0 ∷ 1 ∷ 8 ∷ replicate 6 0) (98 ∷ 254 ∷ replicate 6 255 ++ 127 ∷ replicate 23 7 ++ 98 ∷ 163 ∷ 156 ∷ replicate 29 0 ++ 99 ∷ 0 ∷ replicate 62 7) 142 (97 ∷ 98 ∷ []) 4 (negsuc 4988236310929740657) (replicate 30 120) 18446744073709551473 0 ≡ gave (plain (Ok Done) 2) (1 ∷ 2 ∷ 18446744073709551615 ∷ 4 ∷ 0 ∷ 0 ∷ 2 ∷ 30 ∷ 0 ∷ 3 ∷ 4294967295 ∷ 1 ∷ 1 ∷ 8 ∷ replicate 12 0) (97 ∷ 98 ∷ replicate 30 120 ++ 98 ∷ 163 ∷ 156 ∷ replicate 61 0 ++ replicate 32 7)
+pub v166_set : store_call Set (1 ∷ 3 ∷ 0 ∷ 3 ∷ 4294967295 ∷ 1 ∷ 1 ∷ 8 ∷ 120 ∷ 1 ∷ 5 ∷ 2 ∷ 1 ∷ 1 ∷ 98 ∷ 3 ∷ 5 ∷ 0 ∷ 1 ∷ 8 ∷ replicate 6 0) (98 ∷ 254 ∷ replicate 6 255 ++ 127 ∷ replicate 23 7 ++ 98 ∷ 163 ∷ 156 ∷ replicate 29 0 ++ 99 ∷ 0 ∷ replicate 62 7) 142 (97 ∷ 98 ∷ []) 4 (negsuc 4988236310929740657) (replicate 30 120) 18446744073709551473 0 ≡ gave (plain Done 2) (1 ∷ 2 ∷ 18446744073709551615 ∷ 4 ∷ 0 ∷ 0 ∷ 2 ∷ 30 ∷ 0 ∷ 3 ∷ 4294967295 ∷ 1 ∷ 1 ∷ 8 ∷ replicate 12 0) (97 ∷ 98 ∷ replicate 30 120 ++ 98 ∷ 163 ∷ 156 ∷ replicate 61 0 ++ replicate 32 7)
 unfolding entries_of decode holds held free_run every any right_lengths value_fits entry_sound none_shared sound refuse check_sound ◌then◌ check_clock clock_checks check_key key_checks memory_of encode flat call dead same key_of key_is found_from look_up deads without put wiped remove remove_oldest sweep_count sweep after_sweep expiry_of entry_for place_at to_front rewrite_at overwrite_at after gone any_live fit_from first_free run searched is_placed if_room evicted forced_by fit_outcome place_fit placed_by place_anew store_over store_item most_rounds boolean_byte number_bytes value_given item_of check_kind takes_nil check_nil too_late check_lifetime store_checks admits delete_found store_admitted store_found store_work store_call
 v166_set = refl
 
 -- set: 0, rounds 0, removed 2
-pub v167_set : store_call Set (1 ∷ 3 ∷ 165 ∷ 1 ∷ 4294967295 ∷ 2 ∷ 3 ∷ 1 ∷ 130 ∷ 4 ∷ 4294967295 ∷ 1 ∷ 1 ∷ 31 ∷ 130 ∷ 3 ∷ 5 ∷ 0 ∷ 1 ∷ 8 ∷ replicate 6 0) (97 ∷ 1 ∷ replicate 6 0 ++ 128 ∷ replicate 23 0 ++ 100 ∷ replicate 31 120 ++ 97 ∷ 98 ∷ 99 ∷ 1 ∷ replicate 60 7) 130 (97 ∷ []) 3 (negsuc 9223372036854775807) (replicate 100 120) 5 0 ≡ gave (plain (Ok Done) 2) (1 ∷ 2 ∷ 135 ∷ 3 ∷ 0 ∷ 0 ∷ 1 ∷ 8 ∷ 165 ∷ 1 ∷ 4294967295 ∷ 2 ∷ 3 ∷ 1 ∷ replicate 12 0) (97 ∷ replicate 7 0 ++ 128 ∷ replicate 55 0 ++ 97 ∷ 98 ∷ 99 ∷ 1 ∷ replicate 60 7)
+pub v167_set : store_call Set (1 ∷ 3 ∷ 165 ∷ 1 ∷ 4294967295 ∷ 2 ∷ 3 ∷ 1 ∷ 130 ∷ 4 ∷ 4294967295 ∷ 1 ∷ 1 ∷ 31 ∷ 130 ∷ 3 ∷ 5 ∷ 0 ∷ 1 ∷ 8 ∷ replicate 6 0) (97 ∷ 1 ∷ replicate 6 0 ++ 128 ∷ replicate 23 0 ++ 100 ∷ replicate 31 120 ++ 97 ∷ 98 ∷ 99 ∷ 1 ∷ replicate 60 7) 130 (97 ∷ []) 3 (negsuc 9223372036854775807) (replicate 100 120) 5 0 ≡ gave (plain Done 2) (1 ∷ 2 ∷ 135 ∷ 3 ∷ 0 ∷ 0 ∷ 1 ∷ 8 ∷ 165 ∷ 1 ∷ 4294967295 ∷ 2 ∷ 3 ∷ 1 ∷ replicate 12 0) (97 ∷ replicate 7 0 ++ 128 ∷ replicate 55 0 ++ 97 ∷ 98 ∷ 99 ∷ 1 ∷ replicate 60 7)
 unfolding entries_of decode holds held free_run every any right_lengths value_fits entry_sound none_shared sound refuse check_sound ◌then◌ check_clock clock_checks check_key key_checks memory_of encode flat call dead same key_of key_is found_from look_up deads without put wiped remove remove_oldest sweep_count sweep after_sweep expiry_of entry_for place_at to_front rewrite_at overwrite_at after gone any_live fit_from first_free run searched is_placed if_room evicted forced_by fit_outcome place_fit placed_by place_anew store_over store_item most_rounds boolean_byte number_bytes value_given item_of check_kind takes_nil check_nil too_late check_lifetime store_checks admits delete_found store_admitted store_found store_work store_call
 v167_set = refl
