@@ -20,7 +20,7 @@ use Rattle.laws.specs.RecencyLaws.{gone_left}
 use Rattle.laws.specs.PlaceLaws.{RanBy, run_ran}
 use Rattle.laws.specs.CellLaws.{held_reverse}
 use Rattle.laws.specs.LeastLossLaws.{after_rounds}
-use Rattle.laws.specs.CallsLaws.{room_ran}
+use Rattle.laws.specs.CallsLaws.{room_ran, no_room}
 use Rattle.laws.specs.Bytes.{FineItem}
 use Rattle.laws.specs.SoundMemory.{SoundMemory, few}
 use Rattle.laws.specs.Blocks.{sound_place}
@@ -114,6 +114,13 @@ module _ (dir pool : List ℕ) (t : sound dir pool ≡ true) (clock most : ℕ) 
     unfolding place_anew searched if_room placed_by evicted forced_by memory_of
     work_is told swept f e = rw (sym e, c.fit, c.ran, c.gone, c.live)
 
+    -- no place: nothing is gone by rounds
+    pub refused_does : (told : Outcome) (swept : ℕ) (a : Answer) → start_of r ≡ None → a ≡ record { rounds = 0; removed = swept + gone_of r; forced = false; stale = false; outcome = NoMemory } → Does (place_anew most clock item told swept m) (length dir) a dir₁ pool₁
+    unfolding fit_outcome place_fit is_placed
+    refused_does told swept a e q =
+        let z : ran_of r ≡ 0 = c.ran ∙ no_room p (sym c.fit ∙ e) in
+        subst (λ (w : Work). Does w (length dir) a dir₁ pool₁) (work_is told swept None e) (record { answer = q ∙ rw z; memory = h })
+
     -- a place: the entry is stored there too
     pub placed_does : (told : Outcome) (swept : ℕ) (a : Answer) (start : ℕ) {dir₂ pool₂ : List ℕ} → start_of r ≡ Some start → Holds (length dir₁) (place_at item start (memory_of dir₁ pool₁)) dir₂ pool₂ → a ≡ record { rounds = ran_of r; removed = swept + gone_of r; forced = live_of r; stale = false; outcome = told } → Does (place_anew most clock item told swept m) (length dir) a dir₂ pool₂
     unfolding fit_outcome place_fit is_placed
@@ -124,10 +131,10 @@ module _ (dir pool : List ℕ) (t : sound dir pool ≡ true) (clock most : ℕ) 
           memory = subst (λ (x : Memory). Holds (length dir) (place_at item start x) dir₂ pool₂) (holds_memory h) (subst (λ (n : ℕ). Holds n (place_at item start (memory_of dir₁ pool₁)) dir₂ pool₂) behind_length k);
         })
 
--- no place: nothing is gone by rounds
+-- nothing chosen: the memory stays as it was
 pub none_does : (dir pool : List ℕ) (t : sound dir pool ≡ true) (clock most : ℕ) (item : Item) → Chosen clock (cells_of pool) (need_for item) most (line (memory_of dir pool)) None → (told : Outcome) (swept : ℕ) (a : Answer) → a ≡ plain NoMemory swept → Does (place_anew most clock item told swept (memory_of dir pool)) (length dir) a dir pool
-unfolding fit_outcome place_fit is_placed remove_oldest
+unfolding remove_oldest
 none_does dir pool t clock most item c told swept a q =
     let h : Holds (length dir) (memory_of dir pool) dir pool = holds_itself dir pool (given_sound dir pool t).dir_is in
     let z : swept + 0 ≡ swept = omega arith in
-    subst (λ (w : Work). Does w (length dir) a dir pool) (work_is dir pool t clock most item None c h told swept None refl) (record { answer = q ∙ rw z; memory = h })
+    refused_does dir pool t clock most item None c h told swept a refl (q ∙ rw z)
