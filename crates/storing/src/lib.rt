@@ -5,12 +5,12 @@ ghost use Rattle.std.specs.Prelude.{◌≡◌, true, ◌+◌, ◌*◌, ◌<◌, 
 ghost use Rattle.rules.specs.Layout.{entries_of, none, memory_of};
 ghost use Rattle.rules.specs.LookUp.{look_up};
 ghost use Rattle.rules.specs.Soundness.{sound};
-ghost use Rattle.rules.specs.Calls.{Holds, Does, rewrite_at, place_at, place_anew, store_item, store_over, admits, most_rounds, store_found, store_work, gave};
+ghost use Rattle.rules.specs.Calls.{Holds, Does, rewrite_at, place_at, place_anew, store_item, store_over, admits, most_rounds, store_found, store_work, item_of, gave, store_call};
 ghost use Rattle.rules.specs.Checks.{store_checks};
+ghost use Rattle.rules.specs.LeastLoss.{StoreLoses};
 ghost use Rattle.rules.specs.declared.Outcome.TheVariants.{Done};
 ghost use Rattle.rules.specs.declared.Operation.TheVariants.{Set, SafeSet, Add, SafeAdd, Replace};
 ghost use Rattle.storing.specs.Order.{item_from, Storable};
-ghost use Rattle.storing.specs.Given.{item_given, stored, Loses};
 ghost use Rattle.storing.specs.Placing.{Fits};
 
 use rules::{Answer, Entry, Found, Operation, Outcome};
@@ -184,7 +184,7 @@ pub fn store_in(
     value: Value,
 ) -> Answer
     requires { (Ok tt) ≡ store_checks op dir.old pool.old clock key.now value.kind value.lifetime }
-    ensures { Does (store_work op clock (item_given clock key.now value.entry) (memory_of dir.old pool.old)) (length dir.old) result dir.new pool.new }
+    ensures { Does (store_work op clock (item_of clock key.now value.entry.kind value.entry.number value.entry.text.now value.entry.lifetime value.entry.flags) (memory_of dir.old pool.old)) (length dir.old) result dir.new pool.new }
 {
     let removed = eviction::sweep(dir, pool, clock);
     if value.kind == 0 {
@@ -218,8 +218,8 @@ pub fn store(
     key: &[u8],
     value: Value,
 ) -> Answer
-    ensures result { gave result dir.new pool.new ≡ stored op dir.old pool.old clock key.now value.entry }
-    ensures loss { Loses op dir.old pool.old clock key.now value.entry (gave result dir.new pool.new) }
+    ensures result { gave result dir.new pool.new ≡ store_call op dir.old pool.old clock key.now value.entry.kind value.entry.number value.entry.text.now value.entry.lifetime value.entry.flags }
+    ensures loss { StoreLoses op dir.old pool.old clock key.now value.entry.kind value.entry.number value.entry.text.now value.entry.lifetime value.entry.flags (gave result dir.new pool.new) }
 {
     if let Err(refusal) = checks::of_store(op, dir, pool, clock, key, value.kind, value.lifetime) {
         return Answer::plain(refusal, 0);
@@ -229,40 +229,40 @@ pub fn store(
 
 // set: stores a value under a key, over an entry of that key or anew; nil deletes. Where there is no place it runs the fewest rounds that make one; if 30 would not, it runs none and answers 12.
 pub fn set(dir: &mut [u64], pool: &mut [u8], clock: u64, key: &[u8], value: Value) -> Answer
-    ensures result { gave result dir.new pool.new ≡ stored Set dir.old pool.old clock key.now value.entry }
-    ensures loss { Loses Set dir.old pool.old clock key.now value.entry (gave result dir.new pool.new) }
+    ensures result { gave result dir.new pool.new ≡ store_call Set dir.old pool.old clock key.now value.entry.kind value.entry.number value.entry.text.now value.entry.lifetime value.entry.flags }
+    ensures loss { StoreLoses Set dir.old pool.old clock key.now value.entry.kind value.entry.number value.entry.text.now value.entry.lifetime value.entry.flags (gave result dir.new pool.new) }
 {
     store(Operation::Set, dir, pool, clock, key, value)
 }
 
 // safe_set: as set, but runs no rounds: without a free place it answers 12.
 pub fn safe_set(dir: &mut [u64], pool: &mut [u8], clock: u64, key: &[u8], value: Value) -> Answer
-    ensures result { gave result dir.new pool.new ≡ stored SafeSet dir.old pool.old clock key.now value.entry }
-    ensures loss { Loses SafeSet dir.old pool.old clock key.now value.entry (gave result dir.new pool.new) }
+    ensures result { gave result dir.new pool.new ≡ store_call SafeSet dir.old pool.old clock key.now value.entry.kind value.entry.number value.entry.text.now value.entry.lifetime value.entry.flags }
+    ensures loss { StoreLoses SafeSet dir.old pool.old clock key.now value.entry.kind value.entry.number value.entry.text.now value.entry.lifetime value.entry.flags (gave result dir.new pool.new) }
 {
     store(Operation::SafeSet, dir, pool, clock, key, value)
 }
 
 // add: as set, but a live entry under the key gives 9, and nil 6.
 pub fn add(dir: &mut [u64], pool: &mut [u8], clock: u64, key: &[u8], value: Value) -> Answer
-    ensures result { gave result dir.new pool.new ≡ stored Add dir.old pool.old clock key.now value.entry }
-    ensures loss { Loses Add dir.old pool.old clock key.now value.entry (gave result dir.new pool.new) }
+    ensures result { gave result dir.new pool.new ≡ store_call Add dir.old pool.old clock key.now value.entry.kind value.entry.number value.entry.text.now value.entry.lifetime value.entry.flags }
+    ensures loss { StoreLoses Add dir.old pool.old clock key.now value.entry.kind value.entry.number value.entry.text.now value.entry.lifetime value.entry.flags (gave result dir.new pool.new) }
 {
     store(Operation::Add, dir, pool, clock, key, value)
 }
 
 // safe_add: as add, but runs no rounds.
 pub fn safe_add(dir: &mut [u64], pool: &mut [u8], clock: u64, key: &[u8], value: Value) -> Answer
-    ensures result { gave result dir.new pool.new ≡ stored SafeAdd dir.old pool.old clock key.now value.entry }
-    ensures loss { Loses SafeAdd dir.old pool.old clock key.now value.entry (gave result dir.new pool.new) }
+    ensures result { gave result dir.new pool.new ≡ store_call SafeAdd dir.old pool.old clock key.now value.entry.kind value.entry.number value.entry.text.now value.entry.lifetime value.entry.flags }
+    ensures loss { StoreLoses SafeAdd dir.old pool.old clock key.now value.entry.kind value.entry.number value.entry.text.now value.entry.lifetime value.entry.flags (gave result dir.new pool.new) }
 {
     store(Operation::SafeAdd, dir, pool, clock, key, value)
 }
 
 // replace: as set, but a missing or dead entry gives 8, and nil 6.
 pub fn replace(dir: &mut [u64], pool: &mut [u8], clock: u64, key: &[u8], value: Value) -> Answer
-    ensures result { gave result dir.new pool.new ≡ stored Replace dir.old pool.old clock key.now value.entry }
-    ensures loss { Loses Replace dir.old pool.old clock key.now value.entry (gave result dir.new pool.new) }
+    ensures result { gave result dir.new pool.new ≡ store_call Replace dir.old pool.old clock key.now value.entry.kind value.entry.number value.entry.text.now value.entry.lifetime value.entry.flags }
+    ensures loss { StoreLoses Replace dir.old pool.old clock key.now value.entry.kind value.entry.number value.entry.text.now value.entry.lifetime value.entry.flags (gave result dir.new pool.new) }
 {
     store(Operation::Replace, dir, pool, clock, key, value)
 }
