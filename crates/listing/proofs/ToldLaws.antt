@@ -18,12 +18,14 @@ use Rattle.rules.specs.Layout.{Memory, memory_of}
 use Rattle.rules.specs.Time.{dead}
 use Rattle.rules.specs.Soundness.{sound}
 use Rattle.rules.specs.Answer.{plain}
-use Rattle.rules.specs.Calls.{up_to, row_of, live_of, key_count, key_rows, listing, listed, keys_of, Listing, row_words, FlatListing, flat_listing, listed_flat}
+use Rattle.rules.specs.Checks.{clock_checks}
+use Rattle.rules.specs.Calls.{up_to, row_of, live_of, key_count, key_rows, listing, listed, keys_of, get_keys_call, Listing, row_words, FlatListing, flat_listing, listed_flat}
 use Rattle.laws.specs.Buffers.{given_memory}
 use Rattle.laws.specs.SoundMemory.{few}
 use Rattle.listing.specs.Counts.{most_fits}
 use Rattle.listing.specs.Rows.{length_rows}
 use Rattle.listing.specs.Filling.{Fits, filled}
+use Rattle.listing.specs.Told.{rows_told, answer_told, Told}
 use Rattle.listing.proofs.FillingLaws.{filled_is}
 
 -- ---- a sound memory has no more entries than the table has rows
@@ -121,3 +123,22 @@ module _ (c : Check) (clock maximum : ℕ) (rows : List Row) (m : Memory) where
   pub rows_passed : (l : Listing) → c ≡ Ok tt → l ≡ listed clock maximum rows m → l ≡ keys_of c clock maximum rows m
   unfolding keys_of
   rows_passed l e p = rw (p, e)
+
+-- ---- both together: what is told, and the table
+
+module _ (dir pool : List ℕ) (clock maximum room : ℕ) where
+  pub told_refused : (o : Outcome) (t : List ℕ) → clock_checks dir pool clock ≡ Err o → Told dir pool clock maximum room (Err o) t
+  unfolding rows_told answer_told filled get_keys_call
+  told_refused o t e =
+      record {
+        fits = record { few = omega arith; there = omega arith };
+        whole = λ rows l. rows_refused (clock_checks dir pool clock) clock maximum rows (memory_of dir pool) o (plain o 0) e refl;
+      }
+
+  pub told_passed : (s : sound dir pool ≡ true) (n : ℕ) (t₀ u t : List ℕ) (w : ℕ) → length t₀ ≡ 3072 → w ≡ 3 * min room 1024 → t ≡ u ++ drop w t₀ → flat_listing (plain (Count n) 0) u ≡ listed_flat clock maximum (take w t₀) (memory_of dir pool) → clock_checks dir pool clock ≡ Ok tt → Told dir pool clock maximum room (Ok n) t
+  unfolding rows_told answer_told get_keys_call
+  told_passed s n t₀ u t w size used whole f e =
+      record {
+        fits = keys_fit dir pool clock maximum room s n t₀ u t w size used whole f;
+        whole = λ rows l. rows_passed (clock_checks dir pool clock) clock maximum rows (memory_of dir pool) (listing (plain (Count n) 0) (filled rows t n)) e (keys_listed dir pool clock maximum room s n t₀ u t w size used whole f refl rows l);
+      }

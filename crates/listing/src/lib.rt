@@ -9,6 +9,7 @@ ghost use Rattle.rules.specs.Soundness.{sound};
 ghost use Rattle.rules.specs.Calls.{row_of, row_words, flat_listing, listed_flat, get_keys_flat_call, listing, get_keys_call};
 ghost use Rattle.listing.specs.Rows.{Listed};
 ghost use Rattle.listing.specs.Filling.{row_at, Fits, filled};
+ghost use Rattle.listing.specs.Told.{rows_told, answer_told, Told};
 
 use rules::{Answer, Entry, Outcome, Row};
 
@@ -105,16 +106,49 @@ fn fill_rows(rows: &mut [Row], table: &[u64], n: usize)
     }
 }
 
+// get_keys into the plain numbers of so many rows. It tells how many rows, or refuses.
+fn keys_for(
+    dir: &[u64],
+    pool: &[u8],
+    clock: u64,
+    maximum: u64,
+    room: usize,
+    table: &mut [u64],
+) -> Result<usize, Outcome>
+    requires { length table.old ≡ 3072 }
+    ensures { Told dir.now pool.now clock maximum room result table.new }
+{
+    checks::of_clock(dir, pool, clock)?;
+    let end = 3 * room.min(1024); // no memory has more than 1,024 entries
+    Ok(list_rows(dir, pool, clock, maximum, &mut table[..end]))
+}
+
+// How many rows are told: none with a refusal.
+fn rows_told(told: Result<usize, Outcome>) -> usize
+    ensures { result ≡ rows_told told }
+{
+    match told {
+        Ok(n) => n,
+        Err(_) => 0, // no row is filled
+    }
+}
+
+// The answer that tells so many rows, or the refusal.
+fn answer_told(told: Result<usize, Outcome>) -> Answer
+    ensures { result ≡ answer_told told }
+{
+    match told {
+        Ok(n) => Answer::plain(Outcome::Count(n as u64), 0),
+        Err(refusal) => Answer::plain(refusal, 0),
+    }
+}
+
 // get_keys into a lent table of rows, a row for each live entry, most recent first.
 pub fn get_keys(dir: &[u64], pool: &[u8], clock: u64, maximum: u64, rows: &mut [Row]) -> Answer
     ensures { listing result rows.new ≡ get_keys_call dir.now pool.now clock maximum rows.old }
 {
-    if let Err(refusal) = checks::of_clock(dir, pool, clock) {
-        return Answer::plain(refusal, 0); // no row is filled
-    }
-    let mut table = [0u64; 3072]; // no memory has more than 1,024 entries
-    let end = 3 * rows.len().min(1024);
-    let n = list_rows(dir, pool, clock, maximum, &mut table[..end]);
-    fill_rows(rows, &table, n);
-    Answer::plain(Outcome::Count(n as u64), 0)
+    let mut table = [0u64; 3072];
+    let told = keys_for(dir, pool, clock, maximum, rows.len(), &mut table);
+    fill_rows(rows, &table, rows_told(told));
+    answer_told(told)
 }
