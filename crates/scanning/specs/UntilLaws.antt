@@ -1,10 +1,76 @@
--- A byte looked for: what the first place of it in a part tells.
-use Rattle.std.specs.Prelude.{◌≡◌, refl, Bool, true, false, not, List, [], ◌∷◌, ℕ, zero, suc, ◌+◌, ◌-◌, ◌≤◌, eqb, length, take, drop, get_or}
-use Rattle.std.proofs.Common.{sym, ap, ◌∙◌, arith, get_or-drop, length-drop, take_all, eqb-true}
+-- A byte looked for: what holds while the bytes near by are passed, and what the first place of it in a part tells.
+use Rattle.std.specs.Prelude.{◌≡◌, refl, Bool, true, false, not, List, [], ◌∷◌, ◌++◌, ℕ, zero, suc, ◌+◌, ◌-◌, ◌≤◌, ◌<◌, eqb, length, take, drop, get_or}
+use Rattle.std.proofs.Common.{sym, ap, ◌∙◌, arith, get_or-drop, length-drop, take_all, take-suc, drop-drop, eqb-true, ne_eqb}
+use Rattle.std.proofs.Math.Bool.{and-true}
 use Rattle.memchr.specs.Find.{NoneBefore, Nowhere, Passes, is_byte}
 use Rattle.rules.specs.Layout.{part}
 use Rattle.rules.specs.Soundness.{every}
+use Rattle.laws.specs.Booleans.{and_left, and_right}
 use Rattle.scanning.specs.Until.{other, Until}
+
+-- ---- the bytes passed one by one
+
+every_snoc : (byte : ℕ) (l : List ℕ) (b : ℕ) → every (other byte) l ≡ true → other byte b ≡ true → every (other byte) (l ++ (b ∷ [])) ≡ true
+unfolding every
+every_snoc byte [] b e p = and-true (other byte b) ∙ p
+every_snoc byte (a ∷ l) b e p = simp (and_left (other byte a) (every (other byte) l) e, every_snoc byte l b (and_right (other byte a) (every (other byte) l) e) p)
+
+-- the byte stands nowhere from `from` to before i
+pub record Passed (byte : ℕ) (bytes : List ℕ) (from i : ℕ) : Type 0 where
+  pub after : from ≤ i
+  pub inside : i ≤ length bytes
+  pub nowhere : every (other byte) (part bytes from (i - from)) ≡ true
+
+pub passed_none : (byte : ℕ) {bytes : List ℕ} {from : ℕ} → from ≤ length bytes → Passed byte bytes from from
+unfolding every
+passed_none byte {bytes} {from} h =
+    let z : from - from ≡ 0 = omega arith in
+    record { after = omega arith; inside = h; nowhere = ap (λ (n : ℕ). every (other byte) (part bytes from n)) z }
+
+every_join : (byte : ℕ) (l : List ℕ) (m n : ℕ) → every (other byte) (take m l) ≡ true → every (other byte) (take n (drop m l)) ≡ true → every (other byte) (take (m + n) l) ≡ true
+unfolding every
+every_join byte l zero n e f = let z : 0 + n ≡ n = omega arith in ap (λ (k : ℕ). every (other byte) (take k l)) z ∙ f
+every_join byte [] (suc m) n e f = let s : suc m + n ≡ suc (m + n) = omega arith in ap (λ (k : ℕ). every (other byte) (take {A = ℕ} k [])) s
+every_join byte (a ∷ l) (suc m) n e f =
+    let s : suc m + n ≡ suc (m + n) = omega arith in
+    let j : every (other byte) (take (m + n) l) ≡ true = every_join byte l m n (and_right (other byte a) (every (other byte) (take m l)) e) f in
+    ap (λ (k : ℕ). every (other byte) (take k (a ∷ l))) s ∙ simp (and_left (other byte a) (every (other byte) (take m l)) e, j)
+
+module _ {byte : ℕ} {bytes : List ℕ} {from i : ℕ} (p : Passed byte bytes from i) where
+  pub passed_more : i < length bytes → (get_or bytes i 0 ≡ byte → ⊥) → Passed byte bytes from (i + 1)
+  passed_more h t =
+      let k : ℕ = i - from in
+      let n : i + 1 - from ≡ suc k = omega (arith, p.after) in
+      let j : from + k ≡ i = omega (arith, p.after) in
+      let b : get_or (drop from bytes) k 0 ≡ get_or bytes i 0 = get_or-drop from bytes k 0 ∙ ap (λ (m : ℕ). get_or bytes m 0) j in
+      record {
+        after = omega (arith, p.after);
+        inside = omega arith;
+        nowhere =
+            ap (λ (m : ℕ). every (other byte) (part bytes from m)) n
+            ∙ ap (every (other byte)) (take-suc (drop from bytes) k 0 (omega (arith, length-drop from bytes, p.after)))
+            ∙ every_snoc byte (take k (drop from bytes)) (get_or (drop from bytes) k 0) p.nowhere (ap (other byte) b ∙ ap not (ne_eqb (get_or bytes i 0) byte t));
+      }
+
+  pub passed_byte : get_or bytes i 0 ≡ byte → Until byte bytes from i
+  passed_byte t = record { after = p.after; inside = p.inside; nowhere = p.nowhere; there = λ h. t }
+
+  -- where it stands next from there on is where it stands next from `from` on
+  pub passed_until : {near end : ℕ} → i ≡ near → Until byte bytes near end → Until byte bytes from end
+  passed_until {near} {end} e u =
+      let n : end - from ≡ (i - from) + (end - near) = omega (arith, e, p.after, u.after) in
+      let j : from + (i - from) ≡ near = omega (arith, e, p.after) in
+      let d : drop (i - from) (drop from bytes) ≡ drop near bytes = drop-drop (i - from) from bytes ∙ ap (λ (m : ℕ). drop m bytes) j in
+      record {
+        after = omega (arith, e, p.after, u.after);
+        inside = u.inside;
+        nowhere =
+            ap (λ (m : ℕ). every (other byte) (part bytes from m)) n
+            ∙ every_join byte (drop from bytes) (i - from) (end - near) p.nowhere (ap (λ (l : List ℕ). every (other byte) (take (end - near) l)) d ∙ u.nowhere);
+        there = u.there;
+      }
+
+-- ---- the first place in a part
 
 not_true : (t : Bool) → (t ≡ true → ⊥) → not t ≡ true
 not_true true h = absurd (h refl)

@@ -1,9 +1,13 @@
--- `scanning::find` meets its contract.
-use Rattle.scanning.specs.UntilLaws.{until_some, until_none}
+-- `scanning::find` meets its contract. The loop's invariant: the byte stands nowhere from `from` to before i.
+use Rattle.std.proofs.Common.{arith}
+use Rattle.scanning.specs.UntilLaws.{passed_none, passed_more, passed_byte, passed_until}
 use Rattle.scanning.proofs.find.Goals as goal
 
-pub returns-in-Some : goal.returns-in-Some
-returns-in-Some c = until_some _ _ _ c.requires _ c.in-Some.ensures.0 c.in-Some.ensures.1
+pub loop-i-init : goal.loop-i-init
+loop-i-init c = passed_none _ c.requires
 
-pub returns-in-None : goal.returns-in-None
-returns-in-None c = until_none _ _ _ c.requires c.in-None.ensures
+pub loop-i-preserved : goal.loop-i-preserved
+loop-i-preserved c = passed_more c.loop-i.invariant (omega (arith, c.loop-i-test.true, c.loop-i.auto, c.min.ensures)) c.if-bytes-i.false
+
+pub returns : goal.returns
+returns c = passed_until c.loop-i.invariant (omega (arith, c.loop-i-test.false, c.loop-i.auto, c.loop-i.auto.i-end)) c.find_far.ensures
