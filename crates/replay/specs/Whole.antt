@@ -15,6 +15,7 @@ use Rattle.rules.specs.Replay.{lines_from, lines_of, LineCall, call_of, Replay, 
 use Rattle.scanning.specs.Until.{other}
 use Rattle.lines.specs.CallLaws.{too_long}
 use Rattle.replay.specs.declared.Progress.{Progress}
+use Rattle.replay.specs.declared.ReplayDone.{ReplayDone}
 use Rattle.replay.specs.declared.OutputTooShort.{OutputTooShort}
 use Rattle.replay_calls.specs.Front.{state}
 use Rattle.replay.specs.LineLaws.{lines_plain, lines_cut, lines_open, before, Gives, gives_more, far, reached_full, reached_more}
@@ -220,9 +221,14 @@ pub record Replayed (input dir pool out₀ : List ℕ) (s : Replay) (lines at w 
   pub ends : w + room s.pool ≤ length out → at ≡ length input
 
 -- an output that has no room for the header and a line is refused, and nothing changes
-abbrev pub ReplayGives : List ℕ → Replay → List ℕ → Result Progress OutputTooShort → Replay → List ℕ → Type 0
-ReplayGives input s₀ out₀ (Ok p) s out = (length header + room s₀.pool ≤ length out₀) × Replayed input s₀.dir s₀.pool out₀ s p.lines p.consumed p.written out
-ReplayGives input s₀ out₀ (Err e) s out = (length out₀ < length header + room s₀.pool) × (s ≡ s₀) × (out ≡ out₀)
+abbrev pub LentGives : List ℕ → Replay → List ℕ → Result Progress OutputTooShort → Replay → List ℕ → Type 0
+LentGives input s₀ out₀ (Ok p) s out = (length header + room s₀.pool ≤ length out₀) × Replayed input s₀.dir s₀.pool out₀ s p.lines p.consumed p.written out
+LentGives input s₀ out₀ (Err e) s out = (length out₀ < length header + room s₀.pool) × (s ≡ s₀) × (out ≡ out₀)
+
+-- the same of two buffers, before and after
+abbrev pub ReplayGives : List ℕ → List ℕ → List ℕ → List ℕ → Result ReplayDone OutputTooShort → List ℕ → List ℕ → List ℕ → Type 0
+ReplayGives input dir pool out₀ (Ok p) dir' pool' out = (length header + room pool ≤ length out₀) × Replayed input dir pool out₀ (state p.cells dir' pool') p.lines p.consumed p.written out
+ReplayGives input dir pool out₀ (Err e) dir' pool' out = (length out₀ < length header + room pool) × (dir' ≡ dir) × (pool' ≡ pool) × (out ≡ out₀)
 
 -- done to its end: the output is this, and so is the memory
 pub replayed_whole : {input dir pool out₀ : List ℕ} {s : Replay} {lines at w : ℕ} {out : List ℕ} → Replayed input dir pool out₀ s lines at w out → at ≡ length input → replay_of input dir pool ≡ record { output = take w out; left = s }

@@ -6,7 +6,7 @@ ghost use Rattle.rules.specs.Layout.{put};
 ghost use Rattle.rules.specs.Replay.{room};
 ghost use Rattle.replay_calls.specs.Lent.{left, Same};
 ghost use Rattle.replay.specs.Progress.{Lined, Done};
-ghost use Rattle.replay.specs.Whole.{held, Behind, ReplayGives};
+ghost use Rattle.replay.specs.Whole.{held, Behind, LentGives, ReplayGives};
 
 use replay_calls::Lent;
 
@@ -94,12 +94,12 @@ fn run_all(memory: &mut Lent<'_>, input: &[u8], out: &mut [u8]) -> Progress
 pub struct OutputTooShort;
 
 // Replays a whole input, in the lent memory as if no `fresh` had touched it: the header, and a line of output for each line, to the end of the input where the output has room. Where the output is too short, nothing changes.
-pub fn replay(
+pub fn replay_lent(
     memory: &mut Lent<'_>,
     input: &[u8],
     out: &mut [u8],
 ) -> Result<Progress, OutputTooShort>
-    ensures gives { ReplayGives input.now (left memory.old) out.old result (left memory.new) out.new }
+    ensures gives { LentGives input.now (left memory.old) out.old result (left memory.new) out.new }
     ensures same { Same memory.old memory.new }
 {
     if out.len() < 204 {
@@ -114,5 +114,37 @@ pub fn replay(
     Ok(Progress {
         written: begun + done.written,
         ..done
+    })
+}
+
+// How far a whole input is replayed: the cells in use, those of the last `fresh` done, the number of lines done, the bytes of the input that they took, and the bytes of the output that are written.
+#[derive(Clone, Copy, Debug, PartialEq, Eq)]
+pub struct ReplayDone {
+    pub cells: usize,
+    pub lines: u64,
+    pub consumed: usize,
+    pub written: usize,
+}
+
+// The same on any two buffers, from a memory that no `fresh` has touched: they are lent for the replay, and their cells in use are told at its end.
+pub fn replay(
+    dir: &mut [u64],
+    pool: &mut [u8],
+    input: &[u8],
+    out: &mut [u8],
+) -> Result<ReplayDone, OutputTooShort>
+    ensures { ReplayGives input.now dir.old pool.old out.old result dir.new pool.new out.new }
+{
+    let mut memory = Lent {
+        dir,
+        pool,
+        cells: 0,
+    };
+    let done = replay_lent(&mut memory, input, out)?;
+    Ok(ReplayDone {
+        cells: memory.cells,
+        lines: done.lines,
+        consumed: done.consumed,
+        written: done.written,
     })
 }
