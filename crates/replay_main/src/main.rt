@@ -7,7 +7,9 @@ ghost use Rattle.rules.specs.Replay.{header};
 ghost use Rattle.rules.specs.Soundness.{every};
 ghost use Rattle.scanning.specs.Until.{other};
 ghost use Rattle.replay.specs.Whole.{held};
+ghost use Rattle.replay_calls.specs.Lent.{left};
 ghost use Rattle.replay_main.specs.Rest.{IsRest};
+ghost use Rattle.replay_main.specs.Wrote.{Wrote};
 
 use replay_calls::Lent;
 use std::env::{Env, FillError};
@@ -63,12 +65,23 @@ impl<'m, W: Write> Lines<'m, W> {
         }
     }
 
+    // Writes the first bytes of `out` to the output.
+    fn write_out(&mut self, count: usize) -> io::Result<()>
+        requires { count ≤ 65536 }
+        ensures written { OnOk result (Appends (W.contents self.old.output) (W.contents self.new.output) (take count self.old.out)) }
+        ensures memory_stays { self.new.memory ≡ self.old.memory }
+        ensures out_stays { self.new.out ≡ self.old.out }
+        ensures count_stays { self.new.count ≡ self.old.count }
+    {
+        self.output.write_all(&self.out[..count])
+    }
+
     // Writes the header of the output.
     fn begin(&mut self) -> io::Result<()>
         ensures { OnOk result (Appends (W.contents self.old.output) (W.contents self.new.output) header) }
     {
         let begun = printing::write_header(&mut self.out);
-        self.output.write_all(&self.out[..begun])
+        self.write_out(begun)
     }
 
     // Does the lines of a piece of input, writes their output, and answers what is left of the piece, in which no line ends.
@@ -78,13 +91,14 @@ impl<'m, W: Write> Lines<'m, W> {
         ensures rest_is_last { IfOk result (λ rest. IsRest rest.now input.now) }
         ensures rest_has_no_end { IfOk result (λ rest. every (other 10) rest.now ≡ true) }
         ensures count_bound { self.new.count ≤ self.old.count + length input.now }
+        ensures wrote { IfOk result (λ rest. Wrote (W.contents self.old.output) (W.contents self.new.output) self.old.count input.now (left self.old.memory) self.new.count rest.now (left self.new.memory)) }
     {
         let mut rest = input;
         while !rest.is_empty() {
             let done = replay::run(&mut self.memory, self.count, rest, &mut self.out);
             self.count = done.lines;
             rest = &rest[done.consumed..];
-            self.output.write_all(&self.out[..done.written])?;
+            self.write_out(done.written)?;
             if 160 + self.memory.pool.len() <= self.out.len() - done.written {
                 break;
             }

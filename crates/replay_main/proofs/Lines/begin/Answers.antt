@@ -6,6 +6,6 @@ use Rattle.replay_main.proofs.Lines.begin.Goals as goal
 
 pub returns : goal.returns
 returns g c =
-    subst (λ bytes. OnOk c.write_all.result (Appends (g.W.Write.contents c.args.self.now.output) (g.W.Write.contents c.write_all.new.self) bytes))
+    subst (λ bytes. OnOk c.write_out.result (Appends (g.W.Write.contents c.args.self.now.output) (g.W.Write.contents c.write_out.new.self.output) bytes))
     (ap (take _) c.write_header-begun.ensures.0 ∙ front_put _ _ _ c.write_header-begun.ensures.1 (omega (arith, c.write_header-begun.auto)))
-    c.write_all.ensures.bytes
+    c.write_out.ensures.written
