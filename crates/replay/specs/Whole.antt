@@ -230,6 +230,10 @@ abbrev pub ReplayGives : List ℕ → List ℕ → List ℕ → List ℕ → Res
 ReplayGives input dir pool out₀ (Ok p) dir' pool' out = (length header + room pool ≤ length out₀) × Replayed input dir pool out₀ (state p.cells dir' pool') p.lines p.consumed p.written out
 ReplayGives input dir pool out₀ (Err e) dir' pool' out = (length out₀ < length header + room pool) × (dir' ≡ dir) × (pool' ≡ pool) × (out ≡ out₀)
 
+-- told of the same cells, words and bytes
+pub replayed_as : {input dir pool out₀ : List ℕ} {cells cells' : ℕ} {d d' p p' : List ℕ} {lines at w : ℕ} {out : List ℕ} → Replayed input dir pool out₀ (state cells d p) lines at w out → cells' ≡ cells → d' ≡ d → p' ≡ p → Replayed input dir pool out₀ (state cells' d' p') lines at w out
+replayed_as r c d p = rw (c, d, p) r
+
 -- done to its end: the output is this, and so is the memory
 pub replayed_whole : {input dir pool out₀ : List ℕ} {s : Replay} {lines at w : ℕ} {out : List ℕ} → Replayed input dir pool out₀ s lines at w out → at ≡ length input → replay_of input dir pool ≡ record { output = take w out; left = s }
 unfolding lines_done lines_of lines_from
