@@ -52,8 +52,11 @@ module _ {byte : ℕ} {bytes : List ℕ} {from i : ℕ} (p : Passed byte bytes f
             ∙ every_snoc byte (take k (drop from bytes)) (get_or (drop from bytes) k 0) p.nowhere (ap (other byte) b ∙ ap not (ne_eqb (get_or bytes i 0) byte t));
       }
 
-  pub passed_byte : get_or bytes i 0 ≡ byte → Until byte bytes from i
-  passed_byte t = record { after = p.after; inside = p.inside; nowhere = p.nowhere; there = λ h. t }
+  pub passed_to : {to : ℕ} → to ≡ i → Passed byte bytes from to
+  passed_to e = rw e p
+
+  pub passed_byte : (i < length bytes → get_or bytes i 0 ≡ byte) → Until byte bytes from i
+  passed_byte t = record { after = p.after; inside = p.inside; nowhere = p.nowhere; there = t }
 
   -- where it stands next from there on is where it stands next from `from` on
   pub passed_until : {near end : ℕ} → i ≡ near → Until byte bytes near end → Until byte bytes from end

@@ -1,6 +1,0 @@
--- `scanning::find` meets its contract. The loop's invariant: the byte stands nowhere from `from` to before i.
-use Rattle.scanning.specs.UntilLaws.{Passed}
-use Rattle.scanning.proofs.find.Given as goal
-
-abbrev pub invariant-loop-i : goal.invariant-loop-i
-invariant-loop-i l = Passed l.byte l.bytes l.from l.i
