@@ -16,7 +16,7 @@ pub fn find(bytes: &[u8], from: usize, byte: u8) -> usize
     requires { from ≤ length bytes.now }
     ensures { Until byte bytes.now from result }
 {
-    if bytes.len() <= NEAR || bytes.len() - from <= NEAR {
+    if bytes.len() - from <= NEAR {
         return find_before(bytes, from, bytes.len(), byte);
     }
     let near = find_before(bytes, from, from + NEAR, byte);
